@@ -11,6 +11,7 @@ use lib.ListN.{getD}
 use Rattle.std.proofs.shelf.Tests.{lt-ltb, le-ltb, eq-eqb, ne-eqb, cases-lt, cases-eq}
 use Rattle.std.specs.declared.result.Result.{Result}
 use Rattle.std.specs.declared.result.Result.the-variants.{Ok, Err}
+use Rattle.terms.proofs.Setups.{refused}
 use Rattle.terms.specs.declared.refusal.Refusal.{Refusal}
 use Rattle.tape.specs.Numbers.{groups, lowest, readGroups}
 use Rattle.tape.proofs.Numbers.{pow-first}
@@ -62,14 +63,11 @@ more-groups k b m bs rest high fits some h =
     let r : 128 + n % 128 ≡ b = omega arith in
     (omega (arith, suc-step k, h .0), rw (le-ltb n 128 (omega arith), q, r) (ap (λ ys. b ∷ ys) (h .1)))
 
-clash : {x : Refusal} (n : ℕ) (rest : List ℕ) → _≡_ {A = Result (ℕ × List ℕ) Refusal} (Err x) (Ok (n, rest)) → ⊥
-clash n rest e = let z : _≡_ {A = ℕ} 0 1 = cc in omega arith
-
 below : (k b n : ℕ) (bs rest : List ℕ) (r : Result (ℕ × List ℕ) Refusal) → 128 ≤ b → b < 256 → ((m : ℕ) (ys : List ℕ) → r ≡ Ok (m, ys) → Encodes k bs m ys) → lowest b r ≡ Ok (n, rest) → Encodes (suc k) (b ∷ bs) n rest
-below k b n bs rest (Err x) high fits ih e = absurd (clash n rest e)
+below k b n bs rest (Err x) high fits ih e = absurd (refused (n, rest) e)
 below k b n bs rest (Ok p) high fits ih e =
     ⊎-elim
-    (λ z. absurd (clash n rest (rw (eq-eqb (p .0) 0 z) at e)))
+    (λ z. absurd (refused (n, rest) (rw (eq-eqb (p .0) 0 z) at e)))
     (λ some.
     let same = ok-same ((b - 128) + 128 * p .0, p .1) (n, rest) (rw (ne-eqb (p .0) 0 some) at e) in
     let v : (b - 128) + 128 * p .0 ≡ n = ap (λ p. p .0) same in
@@ -79,11 +77,11 @@ below k b n bs rest (Ok p) high fits ih e =
 
 pub only-encoded : (k : ℕ) (bs : List ℕ) (n : ℕ) (rest : List ℕ) → ((i : ℕ) → getD bs i 0 < 256) → readGroups k bs ≡ Ok (n, rest) → Encodes k bs n rest
 unfolding readGroups
-only-encoded k [] n rest fits e = absurd (clash n rest e)
+only-encoded k [] n rest fits e = absurd (refused (n, rest) e)
 only-encoded zero (b ∷ bs) n rest fits e =
     ⊎-elim
     (λ low. last-group zero b n bs rest low (rw (lt-ltb b 128 low) at e))
-    (λ high. absurd (clash n rest (rw (le-ltb b 128 high) at e)))
+    (λ high. absurd (refused (n, rest) (rw (le-ltb b 128 high) at e)))
     (cases-lt b 128)
 only-encoded (suc k) (b ∷ bs) n rest fits e =
     let ih = only-encoded k bs in

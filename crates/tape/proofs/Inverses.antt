@@ -1,58 +1,32 @@
 -- The set-up and the messages are read back from their bytes, and from no others.
 use mathlib.Core.Path.{_≡_, refl, sym, ap, subst, _∙_}
-use mathlib.Core.Bool.{true, false, cond, _&&_}
 use mathlib.Core.List.{List, [], _∷_, _++_, append-assoc}
-use mathlib.Core.Logic.{⊎-elim}
-use Prim.Native.Nat.{ℕ, zero, suc, _+_, _<_}
+use Prim.Native.Nat.{ℕ, suc, _+_, _<_}
 use native.Mathlib.Nat.{not-suc-le-zero}
-use native.Mathlib.Omega.{arith}
-use lib.Dec.{eqb}
 use lib.ListN.{length, getD}
-use Rattle.std.proofs.shelf.Tests.{cases-bool, eqb-true, cond-true, cond-false}
 use Rattle.std.specs.declared.option.Option.{Option}
 use Rattle.std.specs.declared.option.Option.the-variants.{Some, None}
 use Rattle.std.specs.declared.result.Result.{Result}
 use Rattle.std.specs.declared.result.Result.the-variants.{Ok, Err}
 use Rattle.std.specs.shelf.Lists.{joined}
+use Rattle.terms.proofs.Cases.{case-value}
+use Rattle.terms.proofs.Setups.{places, places-all, refused}
+use Rattle.terms.proofs.Setups.{setup-only as accepted}
 use Rattle.terms.specs.Messages.{letterFor, numbersFor}
-use Rattle.terms.specs.Setups.{instrumentAllowed, spanAllowed, instrumentFrom, dayFrom, setupWith, setupFrom, setupNumbers}
-use Rattle.terms.specs.Values.{caseOf, letterByte, letters, letterOf, makeNumber, makeOf, marketNumber, marketOf}
+use Rattle.terms.specs.Setups.{setupFrom, setupNumbers}
+use Rattle.terms.specs.Values.{letterByte, letters, letterOf}
 use Rattle.terms.specs.declared.letter.Letter.{Letter}
 use Rattle.terms.specs.declared.letter.Letter.the-variants as letter
-use Rattle.terms.specs.declared.letter.Make.{Make}
-use Rattle.terms.specs.declared.letter.Make.the-variants.{Sorted, Heaps}
-use Rattle.terms.specs.declared.letter.Market.{Market}
-use Rattle.terms.specs.declared.letter.Market.the-variants.{Warrant, Stock}
-use Rattle.terms.specs.declared.setup.Instrument.{Instrument}
 use Rattle.terms.specs.declared.setup.Setup.{Setup}
-use Rattle.terms.specs.declared.setup.Span.{Span}
 use Rattle.terms.specs.declared.message.Message.{Message}
 use Rattle.terms.specs.declared.message.Message.the-variants.{Buy, Sell, ImmediateBuy, ImmediateSell, Change, Cancel, Quote, Renew, Halt, Resume, End}
 use Rattle.terms.specs.declared.refusal.Refusal.{Refusal}
-use Rattle.terms.specs.declared.refusal.Refusal.the-variants.{OutsideLimits}
 use Rattle.tape.specs.Messages.{arity, messageFrom, encodedMessage, body, behindLetter, readMessage}
 use Rattle.tape.specs.Numbers.{Encodable, encoded, readNumbers}
 use Rattle.tape.specs.Setups.{before, tested, readSetup, encodedSetup}
 use Rattle.tape.proofs.Encodings.{ok-same}
 use Rattle.tape.proofs.Numbers.{behind, behind-cons}
-use Rattle.tape.proofs.Runs.{refused, reads-all, only-all, numbers-followed}
-
--- the k numbers from place i on, place by place
-places : ℕ → ℕ → List ℕ → List ℕ
-places i zero ns = []
-places i (suc k) ns = getD ns i 0 ∷ places (suc i) k ns
-
-places-behind : (i k n : ℕ) (ns : List ℕ) → places (suc i) k (n ∷ ns) ≡ places i k ns
-unfolding places
-places-behind i zero n ns = refl
-places-behind i (suc k) n ns = ap (λ ms. getD ns i 0 ∷ ms) (places-behind (suc i) k n ns)
-
-places-all : (k : ℕ) (ns : List ℕ) → length ns ≡ k → places 0 k ns ≡ ns
-unfolding places
-places-all zero [] e = refl
-places-all zero (n ∷ ns) e = absurd (omega arith)
-places-all (suc k) [] e = absurd (omega arith)
-places-all (suc k) (n ∷ ns) e = ap (λ ms. n ∷ ms) (places-behind 0 k n ns ∙ places-all k ns (omega arith))
+use Rattle.tape.proofs.Runs.{reads-all, only-all, numbers-followed}
 
 -- a message is its letter and its numbers
 pub message-back : (m : Message) → messageFrom (letterFor m) (numbersFor m) ≡ m
@@ -108,14 +82,6 @@ letter-back letter.Halt = refl
 letter-back letter.Resume = refl
 letter-back letter.End = refl
 
-pub case-value : {A : Type 0} (value : A → ℕ) (cases : List A) (n : ℕ) (a : A) → caseOf value cases n ≡ Some a → value a ≡ n
-case-value value [] n a e = let z : _≡_ {A = ℕ} 0 1 = cc in absurd (omega arith)
-case-value value (b ∷ rest) n a e =
-    ⊎-elim
-    (λ t. let s : b ≡ a = (let f = cond-true (eqb (value b) n) (Some b) (caseOf value rest n) t in cc) in ap value (sym s) ∙ eqb-true (value b) n t)
-    (λ t. case-value value rest n a (sym (cond-false (eqb (value b) n) (Some b) (caseOf value rest n) t) ∙ e))
-    (cases-bool (eqb (value b) n))
-
 pub message-reads : (m : Message) (rest : List ℕ) → Encodable (numbersFor m) → readMessage (encodedMessage m ++ rest) ≡ Ok (m, rest)
 message-reads m rest h =
     ap (λ o. behindLetter o (joined encoded (numbersFor m) ++ rest)) (letter-back (letterFor m))
@@ -149,25 +115,6 @@ message-followed bs m rest more fits e =
     let h = message-only bs m rest fits e in
     ap readMessage (ap (λ ys. ys ++ more) (h .1) ∙ append-assoc (encodedMessage m) rest more) ∙ message-reads m (rest ++ more) (h .0)
 
-kinds-only : (i : Instrument) (d : Span) (x : Option Make) (y : Option Market) (s : Setup) → setupWith i d x y ≡ Ok s → (k : Make) × (j : Market) × (x ≡ Some k) × (y ≡ Some j) × (record { instrument = i; day = d; make = k; market = j } ≡ s)
-kinds-only i d None y s e = absurd (refused s e)
-kinds-only i d (Some k) None s e = absurd (refused s e)
-kinds-only i d (Some k) (Some j) s e = (k, j, refl, refl, cc)
-
-setup-numbers : (ns : List ℕ) (s : Setup) → length ns ≡ 9 → setupFrom ns ≡ Ok s → setupNumbers s ≡ ns
-unfolding places
-setup-numbers ns s nine e =
-    let test = instrumentAllowed (instrumentFrom ns) && spanAllowed 100000 (dayFrom ns) in
-    let made = setupWith (instrumentFrom ns) (dayFrom ns) (makeOf (getD ns 7 0)) (marketOf (getD ns 8 0)) in
-    ⊎-elim
-    (λ t.
-    let kinds = kinds-only (instrumentFrom ns) (dayFrom ns) _ _ s (sym (cond-true test made (Err OutsideLimits) t) ∙ e) in
-    let seventh = case-value makeNumber (Sorted ∷ (Heaps ∷ [])) (getD ns 7 0) (kinds .0) (kinds .2) in
-    let eighth = case-value marketNumber (Warrant ∷ (Stock ∷ [])) (getD ns 8 0) (kinds .1) (kinds .3) in
-    rw (sym (kinds .4), seventh, eighth) (places-all 9 ns nine))
-    (λ t. absurd (refused s (sym (cond-false test made (Err OutsideLimits) t) ∙ e)))
-    (cases-bool test)
-
 before-is : (r : Result Setup Refusal) (bs : List ℕ) (s : Setup) (rest : List ℕ) → before r bs ≡ Ok (s, rest) → (r ≡ Ok s) × (bs ≡ rest)
 before-is (Err e) bs s rest q = absurd (refused (s, rest) q)
 before-is (Ok t) bs s rest q =
@@ -184,7 +131,7 @@ pub setup-only : (bs : List ℕ) (s : Setup) (rest : List ℕ) → ((i : ℕ) �
 setup-only bs s rest fits e =
     let parts = tested-is (readNumbers 9 bs) s rest e in
     let h = only-all 9 bs (parts .0) rest fits (parts .1) in
-    let back = sym (setup-numbers (parts .0) s (h .0) (parts .2)) in
+    let back = sym (accepted (parts .0) s (h .0) (parts .2) .1) in
     (subst Encodable back (h .1), h .2 ∙ ap (λ ns. joined encoded ns ++ rest) back)
 
 pub setup-followed : (bs : List ℕ) (s : Setup) (rest more : List ℕ) → ((i : ℕ) → getD bs i 0 < 256) → readSetup bs ≡ Ok (s, rest) → readSetup (bs ++ more) ≡ Ok (s, rest ++ more)

@@ -7,6 +7,7 @@ use lib.ListN.{length, take, set, getD}
 use Rattle.std.proofs.shelf.Lists.{append-nil, take-more-set, take-all}
 use Rattle.std.specs.declared.result.Result.{Result}
 use Rattle.std.specs.declared.result.Result.the-variants.{Ok, Err}
+use Rattle.terms.proofs.Setups.{refused}
 use Rattle.terms.specs.declared.refusal.Refusal.{Refusal}
 use Rattle.std.specs.shelf.Lists.{joined}
 use Rattle.tape.specs.Numbers.{Encodable, encoded, onto, next, readNumber, readNumbers}
@@ -54,9 +55,6 @@ reads-all (n ∷ ns) rest h =
 
 abbrev AllRead : ℕ → List ℕ → List ℕ → List ℕ → Type 0
 AllRead k bs ns rest = (length ns ≡ k) × Encodable ns × (bs ≡ joined encoded ns ++ rest)
-
-pub refused : {A : Type 0} {x : Refusal} (p : A) → _≡_ {A = Result A Refusal} (Err x) (Ok p) → ⊥
-refused p e = let z : _≡_ {A = ℕ} 0 1 = cc in omega arith
 
 pub fits-behind : (xs ys : List ℕ) → ((i : ℕ) → getD (xs ++ ys) i 0 < 256) → (i : ℕ) → getD ys i 0 < 256
 fits-behind [] ys fits i = fits i

@@ -17,6 +17,7 @@ use Rattle.std.specs.declared.option.Option.the-variants.{Some, None}
 use Rattle.std.specs.declared.result.Result.{Result}
 use Rattle.std.specs.declared.result.Result.the-variants.{Ok, Err}
 use Rattle.std.specs.shelf.Lists.{All, joined, map}
+use Rattle.terms.proofs.Setups.{refused}
 use Rattle.terms.proofs.Small.{refusal-small}
 use Rattle.terms.specs.Messages.{letterFor, numbersFor}
 use Rattle.terms.specs.Setups.{setupNumbers}
@@ -28,7 +29,7 @@ use Rattle.terms.specs.declared.refusal.Refusal.the-variants.{TapeTooLong}
 use Rattle.terms.specs.declared.setup.Setup.{Setup}
 use Rattle.tape.proofs.Inverses.{message-back, message-only, letter-back, setup-only}
 use Rattle.tape.proofs.ReadAll.{Bytes, message-shorter, message-bytes}
-use Rattle.tape.proofs.Runs.{fits-behind, refused}
+use Rattle.tape.proofs.Runs.{fits-behind}
 use Rattle.tape.proofs.Words.{Clean, clean-decimal, clean-decimals, line-back}
 use Rattle.tape.specs.Lines.{Word, line, linesOf}
 use Rattle.tape.specs.Messages.{messageFrom, readMessage}

@@ -1,1 +1,3 @@
+pub mod Cases
+pub mod Setups
 pub mod Small

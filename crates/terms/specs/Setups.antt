@@ -1,7 +1,7 @@
 -- Which set-ups are allowed, and the nine numbers that a tape gives for one.
 use mathlib.Core.Bool.{Bool, cond, _&&_}
 use mathlib.Core.List.{List, [], _∷_}
-use Prim.Native.Nat.{ℕ}
+use Prim.Native.Nat.{ℕ, _≤_}
 use lib.Dec.{leb}
 use lib.ListN.{getD}
 use Rattle.std.specs.declared.option.Option.{Option}
@@ -16,6 +16,19 @@ use Rattle.terms.specs.declared.setup.Instrument.{Instrument}
 use Rattle.terms.specs.declared.setup.Setup.{Setup}
 use Rattle.terms.specs.declared.setup.Span.{Span}
 use Rattle.terms.specs.Values.{makeNumber, makeOf, marketNumber, marketOf}
+
+-- the numbers of a span are 1 to max, the least not above the greatest
+abbrev pub SpanIn : ℕ → Span → Type 0
+SpanIn max s = (1 ≤ s .least) × (s .least ≤ s .greatest) × (s .greatest ≤ max)
+
+-- a set-up inside its limits
+pub record Allowed (s : Setup) : Type 0 where
+  pub tick : (1 ≤ s .instrument .tick) × (s .instrument .tick ≤ 100)
+  pub spread : SpanIn 100000 (s .instrument .spread)
+  pub lots : SpanIn 10000000 (s .instrument .«quote_lots»)
+  pub day : SpanIn 100000 (s .day)
+
+-- The same as tests, and a set-up from the numbers that a tape gives.
 
 -- n is a to b
 abbrev pub within : ℕ → ℕ → ℕ → Bool

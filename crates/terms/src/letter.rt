@@ -1,5 +1,6 @@
 // The letters of a tape's messages, and the two numbers of its set-up that choose a kind.
 ghost use mathlib.Core.Path.{_≡_};
+ghost use Rattle.std.specs.declared.option.Option.the-variants.{Some};
 ghost use Rattle.terms.specs.Values.{letterByte, letterOf, makeNumber, makeOf, marketNumber, marketOf};
 
 #[derive(Clone, Copy)]
@@ -20,7 +21,8 @@ pub enum Letter {
 impl Letter {
     // The byte that stands for the letter on a tape.
     pub fn byte(self) -> u8
-        ensures { λ r. ⌜ r ≡ letterByte self ⌝ }
+        ensures value { λ r. ⌜ r ≡ letterByte self ⌝ }
+        ensures reads_back { λ r. ⌜ letterOf r ≡ Some self ⌝ }
     {
         self as u8
     }
@@ -56,7 +58,8 @@ pub enum Make {
 impl Make {
     // The number that stands for the make in a set-up.
     pub fn number(self) -> u32
-        ensures { λ r. ⌜ r ≡ makeNumber self ⌝ }
+        ensures value { λ r. ⌜ r ≡ makeNumber self ⌝ }
+        ensures reads_back { λ r. ⌜ makeOf r ≡ Some self ⌝ }
     {
         self as u32
     }
@@ -83,7 +86,8 @@ pub enum Market {
 impl Market {
     // The number that stands for the market in a set-up.
     pub fn number(self) -> u32
-        ensures { λ r. ⌜ r ≡ marketNumber self ⌝ }
+        ensures value { λ r. ⌜ r ≡ marketNumber self ⌝ }
+        ensures reads_back { λ r. ⌜ marketOf r ≡ Some self ⌝ }
     {
         self as u32
     }

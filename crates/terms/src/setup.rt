@@ -1,6 +1,8 @@
 // What a tape says before its first message.
 ghost use mathlib.Core.Path.{_≡_};
-ghost use Rattle.terms.specs.Setups.{spanAllowed, instrumentAllowed, setupFrom, setupNumbers};
+ghost use Rattle.std.specs.declared.result.Result.the-variants.{Ok};
+ghost use Rattle.terms.specs.declared.setup.Setup.{Setup as AnySetup};
+ghost use Rattle.terms.specs.Setups.{Allowed, spanAllowed, instrumentAllowed, setupFrom, setupNumbers};
 use crate::letter::Make;
 use crate::letter::Market;
 use crate::limits::LOTS_MAX;
@@ -16,6 +18,12 @@ pub struct Span {
 }
 
 impl Span {
+    pub fn new(least: u32, greatest: u32) -> Span
+        ensures { λ r. ⌜ r ≡ record { least = least; greatest = greatest } ⌝ }
+    {
+        Span { least, greatest }
+    }
+
     // Whether both numbers are 1 to `max`, the least not above the greatest.
     pub fn is_allowed(&self, max: u32) -> bool
         ensures { λ r. ⌜ r ≡ spanAllowed max (now (self .entry)) ⌝ }
@@ -58,36 +66,29 @@ pub struct Setup {
 impl Setup {
     // The set-up with these nine numbers, in a tape's order, or a refusal where one is outside its limits.
     pub fn from_numbers(numbers: [u32; 9]) -> Result<Setup, Refusal>
-        ensures { λ r. ⌜ r ≡ setupFrom numbers ⌝ }
+        ensures value { λ r. ⌜ r ≡ setupFrom numbers ⌝ }
+        ensures accepts { λ r. ⌜ ((s : AnySetup) → Allowed s → setupNumbers s ≡ numbers → r ≡ Ok s) ⌝ }
+        ensures only { λ r. ⌜ ((s : AnySetup) → r ≡ Ok s → Allowed s × (setupNumbers s ≡ numbers)) ⌝ }
     {
         let [
             tick,
-            least_spread,
-            greatest_spread,
-            least_lots,
-            greatest_lots,
+            least,
+            greatest,
+            few,
+            many,
             floor,
             ceiling,
             make,
             market,
         ] = numbers;
-        let spread = Span {
-            least: least_spread,
-            greatest: greatest_spread,
-        };
-        let quote_lots = Span {
-            least: least_lots,
-            greatest: greatest_lots,
-        };
+        let spread = Span::new(least, greatest);
+        let quote_lots = Span::new(few, many);
         let instrument = Instrument {
             tick,
             spread,
             quote_lots,
         };
-        let day = Span {
-            least: floor,
-            greatest: ceiling,
-        };
+        let day = Span::new(floor, ceiling);
         if !instrument.is_allowed() || !day.is_allowed(PRICE_MAX) {
             return Err(Refusal::OutsideLimits);
         }

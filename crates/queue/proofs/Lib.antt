@@ -1,0 +1,5 @@
+pub mod Cuts
+pub mod Inserts
+pub mod Places
+pub mod Puts
+pub mod Removes

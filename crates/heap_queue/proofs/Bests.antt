@@ -14,7 +14,8 @@ use Rattle.queue.specs.Held.{Sorted, Apart, any, is, insert, first}
 use Rattle.std.specs.shelf.Lists.{All}
 use Rattle.queue.proofs.Inserts.{all-map, other}
 use Rattle.queue.specs.Rank.{ExactlyOne}
-use Rattle.heap_queue.specs.Heaps.{ranked, better, Perm}
+use Rattle.queue.specs.Through.{SameElements}
+use Rattle.heap_queue.specs.Heaps.{ranked, better}
 use Rattle.heap_queue.proofs.Perms.{perm-last, perm-sym, perm-apart, ranked-perm}
 use Rattle.heap_queue.proofs.Ranks.{any-ranked, sorted-ranked, first-no}
 

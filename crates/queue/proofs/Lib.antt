@@ -3,3 +3,4 @@ pub mod Inserts
 pub mod Places
 pub mod Puts
 pub mod Removes
+pub mod Rounds

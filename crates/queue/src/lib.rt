@@ -10,6 +10,7 @@ ghost use Rattle.queue.specs.Held.{Held, Sound, head, first, any, takes, numbe
 use terms::refusal::Refusal;
 
 pub mod search;
+pub mod through;
 
 // A kind of element that has a number, a key, lots and a rank.
 pub trait Ranked: Copy {

@@ -10,14 +10,20 @@ use Rattle.std.specs.declared.result.Result.{Result}
 use Rattle.std.specs.declared.result.Result.the-variants.{Ok, Err}
 use Rattle.std.specs.shelf.Lists.{joined}
 use Rattle.terms.proofs.Cases.{case-value}
-use Rattle.terms.proofs.Setups.{places, places-all, refused}
+use Rattle.terms.proofs.Setups.{places, places-all, refused, setup-back}
 use Rattle.terms.proofs.Setups.{setup-only as accepted}
 use Rattle.terms.specs.Messages.{letterFor, numbersFor}
-use Rattle.terms.specs.Setups.{setupFrom, setupNumbers}
-use Rattle.terms.specs.Values.{letterByte, letters, letterOf}
+use Rattle.terms.specs.Setups.{setupFrom, setupNumbers, Allowed}
+use Rattle.terms.specs.Values.{letterByte, letters, letterOf, makeNumber, marketNumber}
 use Rattle.terms.specs.declared.letter.Letter.{Letter}
 use Rattle.terms.specs.declared.letter.Letter.the-variants as letter
 use Rattle.terms.specs.declared.setup.Setup.{Setup}
+use Rattle.terms.specs.declared.letter.Make.{Make}
+use Rattle.terms.specs.declared.letter.Make.the-variants.{Sorted, Heaps}
+use Rattle.terms.specs.declared.letter.Market.{Market}
+use Rattle.terms.specs.declared.letter.Market.the-variants.{Warrant, Stock}
+use native.Mathlib.Omega.{arith}
+use lib.Dec.{lit<}
 use Rattle.terms.specs.declared.message.Message.{Message}
 use Rattle.terms.specs.declared.message.Message.the-variants.{Buy, Sell, ImmediateBuy, ImmediateSell, Change, Cancel, Quote, Renew, Halt, Resume, End}
 use Rattle.terms.specs.declared.refusal.Refusal.{Refusal}
@@ -133,6 +139,28 @@ setup-only bs s rest fits e =
     let h = only-all 9 bs (parts .0) rest fits (parts .1) in
     let back = sym (accepted (parts .0) s (h .0) (parts .2) .1) in
     (subst Encodable back (h .1), h .2 ∙ ap (λ ns. joined encoded ns ++ rest) back)
+
+-- numbers inside their limits have an encoding
+make-small : (k : Make) → makeNumber k < 2
+make-small Sorted = lit< tt
+make-small Heaps = lit< tt
+
+market-small : (k : Market) → marketNumber k < 2
+market-small Warrant = lit< tt
+market-small Stock = lit< tt
+
+allowed-small : (s : Setup) → Allowed s → Encodable (setupNumbers s)
+allowed-small s h =
+    let tick = h .tick in
+    let spread = h .spread in
+    let lots = h .lots in
+    let day = h .day in
+    let make = make-small (s .make) in
+    let market = market-small (s .market) in
+    (omega arith, (omega arith, (omega arith, (omega arith, (omega arith, (omega arith, (omega arith, (omega arith, (omega arith, tt)))))))))
+
+pub setup-reads : (s : Setup) (rest : List ℕ) → Allowed s → readSetup (encodedSetup s ++ rest) ≡ Ok (s, rest)
+setup-reads s rest h = ap tested (reads-all (setupNumbers s) rest (allowed-small s h)) ∙ ap (λ r. before r rest) (setup-back s h)
 
 pub setup-followed : (bs : List ℕ) (s : Setup) (rest more : List ℕ) → ((i : ℕ) → getD bs i 0 < 256) → readSetup bs ≡ Ok (s, rest) → readSetup (bs ++ more) ≡ Ok (s, rest ++ more)
 setup-followed bs s rest more fits e =

@@ -17,7 +17,7 @@ fn better<E: Ranked>(best: Option<E>, f: E) -> E
 }
 
 // The first in rank of the elements that `e` ranks before.
-pub fn best_after<E: Ranked>(elements: &[E], e: &E) -> Option<E>
+pub(crate) fn best_after<E: Ranked>(elements: &[E], e: &E) -> Option<E>
     ensures { λ r. ⌜ (Apart (E·Ranked .rank .key) (now (elements .entry)) → r ≡ first (E·Ranked .rank .before (now (e .entry))) (ranked (E·Ranked .rank .before) (now (elements .entry)))) ⌝ }
 {
     let mut best = None;
@@ -30,7 +30,7 @@ pub fn best_after<E: Ranked>(elements: &[E], e: &E) -> Option<E>
 }
 
 // Of the one or two places below `i`, the one whose element ranks first.
-pub fn best_below<E: Ranked>(elements: &[E], i: usize) -> usize
+pub(crate) fn best_below<E: Ranked>(elements: &[E], i: usize) -> usize
     requires { ⌜ i < length (now elements) / 2 ⌝ }
     ensures below { λ r. ⌜ (above r ≡ i) × (i < r) × (r < length (now (elements .entry))) ⌝ }
     ensures best { λ r. ⌜ (Apart (E·Ranked .rank .key) (now (elements .entry)) → BestBelow (E·Ranked .rank .before) (now (elements .entry)) i r) ⌝ }

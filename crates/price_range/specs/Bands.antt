@@ -48,3 +48,15 @@ dayBand day = Some (record { low = day .least; high = day .greatest })
 abbrev pub common : Span → Option Band → Option Band
 common day None = None
 common day (Some b) = bandOf (max (b .low) (day .least)) (min (b .high) (day .greatest))
+
+-- a price is inside a band, and of the day
+abbrev pub Inside : Option Band → ℕ → Type 0
+Inside None p = ⊥
+Inside (Some b) p = (b .low ≤ p) × (p ≤ b .high)
+
+abbrev pub OfDay : Span → ℕ → Type 0
+OfDay day p = (day .least ≤ p) × (p ≤ day .greatest)
+
+-- the band o has just the prices of another that are of the day
+abbrev pub Common : Span → Option Band → Option Band → Type 0
+Common day other o = (p : ℕ) → (Inside o p → Inside other p × OfDay day p) × (Inside other p → OfDay day p → Inside o p)

@@ -6,7 +6,7 @@ ghost use Prim.Native.Nat.{_≤_};
 ghost use Rattle.std.specs.Results.{Cases};
 ghost use Rattle.terms.specs.Setups.{spanAllowed};
 ghost use Rattle.terms.specs.declared.refusal.Refusal.the-variants.{OutsideLimits};
-ghost use Rattle.price_range.specs.Bands.{dayBand, common};
+ghost use Rattle.price_range.specs.Bands.{dayBand, common, Common};
 use crate::PriceRange;
 use crate::band::Band;
 use terms::limits::PRICE_MAX;
@@ -70,7 +70,8 @@ pub impl<R: PriceRange> PriceRange for DayLimits<R> as DayLimitsPriceRange {
     ghost answers = { λ s us. common (s .day) (R·PriceRange .answers (s .below) us) };
 
     fn band(&self) -> Option<Band>
-        ensures { λ r. ⌜ r ≡ common (now (self .entry) .day) (R·PriceRange .answers (now (self .entry) .below) []) ⌝ }
+        ensures value { λ r. ⌜ r ≡ common (now (self .entry) .day) (R·PriceRange .answers (now (self .entry) .below) []) ⌝ }
+        ensures prices { λ r. ⌜ Common (now (self .entry) .day) (R·PriceRange .answers (now (self .entry) .below) []) r ⌝ }
     {
         let band = self.below.band()?;
         let low = band.low.max(self.day.least);

@@ -1,4 +1,6 @@
 // Puts the same orders through both kinds of queue and prints them in rank order, with the lots at each price.
+ghost use mathlib.Core.Path.{_≡_};
+
 mod levels;
 
 use heap_queue::HeapQueue;
@@ -12,7 +14,10 @@ use sorted_queue::SortedQueue;
 use sorted_queue::SortedQueueQueue;
 use std::error::AnyError;
 
-const fn buy(number: u32, price: u32, lots: u32) -> BuyOrder {
+// An order of member 7 that entered in this turn.
+const fn buy(number: u32, price: u32, lots: u32) -> BuyOrder
+    ensures { λ r. ⌜ r .0 ≡ record { number = number; member = 7; price = price; lots = lots; turn = number } ⌝ }
+{
     BuyOrder(Order {
         number,
         member: 7,

@@ -1,17 +1,18 @@
 -- Reading all messages goes on by one message, and ends where a message is refused or no byte is left.
 use mathlib.Core.Path.{_≡_, refl, sym, ap, subst, _∙_}
-use mathlib.Core.List.{List, [], _∷_, _++_}
+use mathlib.Core.List.{List, [], _∷_, _++_, append-assoc}
 use Prim.Native.Nat.{ℕ, zero, suc, _+_, _-_, _≤_, _<_}
 use native.Mathlib.Nat.{not-suc-le-zero}
 use native.Mathlib.Omega.{arith}
 use lib.ListN.{length, getD, length-append}
+use Rattle.std.specs.declared.option.Option.{Option}
 use Rattle.std.specs.declared.option.Option.the-variants.{Some, None}
 use Rattle.std.specs.declared.result.Result.{Result}
 use Rattle.std.specs.declared.result.Result.the-variants.{Ok, Err}
 use Rattle.terms.specs.declared.message.Message.{Message}
 use Rattle.terms.specs.declared.refusal.Refusal.{Refusal}
 use Rattle.tape.specs.Messages.{encodedMessage, readMessage}
-use Rattle.tape.specs.Readings.{Reading, ends, preceded, going, readOn, readAll}
+use Rattle.tape.specs.Readings.{Reading, ends, preceded, going, readOn, readAll, Consecutive, Ended, Covers}
 use Rattle.tape.proofs.Inverses.{message-only}
 use Rattle.tape.proofs.Runs.{fits-behind}
 
@@ -67,3 +68,36 @@ pub all-read : (at : ℕ) (bs : List ℕ) → length bs ≡ 0 → readAll at bs 
 unfolding readOn
 all-read at [] none = refl
 all-read at (b ∷ bs) none = absurd (omega arith)
+
+-- what is read covers what stands there
+ends-covers : (at : ℕ) (bs : List ℕ) (stop : Option Refusal) → Ended stop bs → Covers at bs (ends at stop)
+ends-covers at bs stop h = record { rest = bs; bytes = refl; places = tt; end = refl; ended = h }
+
+more-covers : (at : ℕ) (bs : List ℕ) (m : Message) (rest : List ℕ) (r : Reading) → bs ≡ encodedMessage m ++ rest → Covers (at + (length bs - length rest)) rest r → Covers at bs (preceded (record { place = at; message = m }) r)
+more-covers at bs m rest r e k =
+    let long = ap length e ∙ length-append (encodedMessage m) rest in
+    let step : at + (length bs - length rest) ≡ at + length (encodedMessage m) = omega arith in
+    let stop = k .end in
+    record {
+      rest = k .rest;
+      bytes = e ∙ ap (λ ys. encodedMessage m ++ ys) (k .bytes) ∙ sym (append-assoc (encodedMessage m) _ (k .rest));
+      places = (refl, subst (λ j. Consecutive j (r .messages)) step (k .places));
+      end = omega arith;
+      ended = k .ended;
+    }
+
+going-covers : (at : ℕ) (bs : List ℕ) (r : Result (Message × List ℕ) Refusal) (f : List ℕ → Reading) → readMessage bs ≡ r → ((m : Message) (rest : List ℕ) → r ≡ Ok (m, rest) → (bs ≡ encodedMessage m ++ rest) × Covers (at + (length bs - length rest)) rest (f rest)) → Covers at bs (going at r f)
+going-covers at bs (Err e) f q h = ends-covers at bs (Some e) q
+going-covers at bs (Ok p) f q h = let k = h (p .0) (p .1) refl in more-covers at bs (p .0) (p .1) (f (p .1)) (k .0) (k .1)
+
+pub read-covers : (turns at : ℕ) (bs : List ℕ) → Bytes bs → length bs ≤ turns → Covers at bs (readOn turns at bs)
+unfolding readOn
+read-covers zero at [] fits h = ends-covers at [] None refl
+read-covers zero at (b ∷ bs) fits h = absurd (not-suc-le-zero h)
+read-covers (suc turns) at [] fits h = ends-covers at [] None refl
+read-covers (suc turns) at (b ∷ bs) fits h =
+    let ih = read-covers turns in
+    going-covers at (b ∷ bs) (readMessage (b ∷ bs)) _ refl
+    (λ m rest e.
+    let less = message-shorter (b ∷ bs) m rest fits e in
+    (message-only (b ∷ bs) m rest fits e .1, ih (at + (length (b ∷ bs) - length rest)) rest (message-bytes (b ∷ bs) m rest fits e) (omega arith)))

@@ -2,9 +2,11 @@
 ghost use mathlib.Core.Path.{_≡_};
 ghost use mathlib.Core.List.{List, _++_};
 ghost use Prim.Native.Nat.{ℕ, _+_, _^_, _<_};
+ghost use lib.ListN.{length};
 ghost use Rattle.std.specs.declared.result.Result.the-variants.{Ok};
 ghost use Rattle.std.specs.Vec.{made};
-ghost use Rattle.tape.specs.Numbers.{seen, readGroups, readNumber, readNumbers, encoded};
+ghost use Rattle.std.specs.shelf.Lists.{joined};
+ghost use Rattle.tape.specs.Numbers.{Encodable, seen, readGroups, readNumber, readNumbers, encoded};
 use terms::refusal::Refusal;
 
 // A last group of seven bits, or one that is followed by others, of which `more` may come.
@@ -42,7 +44,9 @@ pub fn read_number(bytes: &[u8]) -> Result<(u32, &[u8]), Refusal>
 
 // As many numbers as the array has places, and the bytes behind them.
 pub fn read_numbers<const N: usize>(bytes: &[u8]) -> Result<([u32; N], &[u8]), Refusal>
-    ensures { λ r. ⌜ seen r ≡ readNumbers N (now (bytes .entry)) ⌝ }
+    ensures reads { λ r. ⌜ seen r ≡ readNumbers N (now (bytes .entry)) ⌝ }
+    ensures gives_back { λ r. ⌜ ((ns rest : List ℕ) → length ns ≡ N → Encodable ns → now (bytes .entry) ≡ joined encoded ns ++ rest → seen r ≡ Ok (ns, rest)) ⌝ }
+    ensures only { λ r. ⌜ ((ns rest : List ℕ) → seen r ≡ Ok (ns, rest) → (length ns ≡ N) × Encodable ns × (now (bytes .entry) ≡ joined encoded ns ++ rest)) ⌝ }
 {
     let mut numbers = [0; N];
     let mut rest = bytes;

@@ -28,13 +28,13 @@ use Rattle.terms.specs.declared.refusal.Refusal.{Refusal}
 use Rattle.terms.specs.declared.refusal.Refusal.the-variants.{TapeTooLong}
 use Rattle.terms.specs.declared.setup.Setup.{Setup}
 use Rattle.tape.proofs.Inverses.{message-back, message-only, letter-back, setup-only}
-use Rattle.tape.proofs.ReadAll.{Bytes, message-shorter, message-bytes}
+use Rattle.tape.proofs.ReadAll.{Bytes, message-shorter, message-bytes, read-covers}
 use Rattle.tape.proofs.Runs.{fits-behind}
 use Rattle.tape.proofs.Words.{Clean, clean-decimal, clean-decimals, line-back}
 use Rattle.tape.specs.Lines.{Word, line, linesOf}
 use Rattle.tape.specs.Messages.{messageFrom, readMessage}
 use Rattle.tape.specs.Numbers.{Encodable}
-use Rattle.tape.specs.Readings.{Placed, Reading, ends, going, readOn, readAll}
+use Rattle.tape.specs.Readings.{Placed, Reading, ends, going, readOn, readAll, Covers}
 use Rattle.tape.specs.Setups.{readSetup, encodedSetup}
 use Rattle.tape_dump.specs.Dumps.{setupWords, messageWords, stopWords, countWords, endLines, readingLines, behindSetup, setupLines, setupOf, readingOf, dumpLines, dumped, entryWith, entryOf}
 
@@ -180,13 +180,17 @@ setup-back tape (Ok p) fits h k =
     let lines = lines-back (setupWords (p .0) ∷ readingLines reading) (setup-ready (p .0) (known .0), ready) in
     ap (λ ls. map entryOf (take (length (reading .messages)) (drop 1 ls))) lines ∙ entries-back (reading .messages) _ (f .each)
 
-setup-known : (tape : List ℕ) (s : Setup) (rest : List ℕ) → Bytes tape → setupOf tape ≡ Ok (s, rest) → Encodable (setupNumbers s) × Bytes rest × (length rest ≤ length tape)
-setup-known tape s rest fits e =
-    let read : readSetup tape ≡ Ok (s, rest) =
+-- a tape that is accepted is not too long
+setup-read : (tape : List ℕ) (s : Setup) (rest : List ℕ) → setupOf tape ≡ Ok (s, rest) → readSetup tape ≡ Ok (s, rest)
+setup-read tape s rest e =
     ⊎-elim
     (λ t. absurd (refused (s, rest) (sym (cond-true (ltb 4096 (length tape)) (Err TapeTooLong) (readSetup tape) t) ∙ e)))
     (λ t. sym (cond-false (ltb 4096 (length tape)) (Err TapeTooLong) (readSetup tape) t) ∙ e)
-    (cases-bool (ltb 4096 (length tape))) in
+    (cases-bool (ltb 4096 (length tape)))
+
+setup-known : (tape : List ℕ) (s : Setup) (rest : List ℕ) → Bytes tape → setupOf tape ≡ Ok (s, rest) → Encodable (setupNumbers s) × Bytes rest × (length rest ≤ length tape)
+setup-known tape s rest fits e =
+    let read = setup-read tape s rest e in
     let h = setup-only tape s rest fits read in
     let long = ap length (h .1) ∙ length-append (encodedSetup s) rest in
     (h .0, fits-behind (encodedSetup s) rest (λ i. subst (λ zs. getD zs i 0 < 256) (h .1) (fits i)), omega arith)
@@ -199,3 +203,14 @@ pub dumped-read : (tape : List ℕ) (r : Result (Setup × List ℕ) Refusal) →
 dumped-read tape r short e =
     ap (λ q. joined line (setupLines q ++ readingLines (behindSetup (length tape) q)))
     (e ∙ sym (cond-false (ltb 4096 (length tape)) (Err TapeTooLong) (readSetup tape) (le-ltb 4096 (length tape) short)))
+
+-- what was read of a tape is what stands on it
+pub dump-covers : (tape : List ℕ) → Bytes tape → (s : Setup) (rest : List ℕ) → setupOf tape ≡ Ok (s, rest) → (tape ≡ encodedSetup s ++ rest) × Covers (length (encodedSetup s)) rest (readingOf tape)
+dump-covers tape fits s rest e =
+    let read = setup-read tape s rest e in
+    let h = setup-only tape s rest fits read in
+    let known = setup-known tape s rest fits e in
+    let long = ap length (h .1) ∙ length-append (encodedSetup s) rest in
+    let at : length tape - length rest ≡ length (encodedSetup s) = omega arith in
+    let same : readAll (length (encodedSetup s)) rest ≡ readingOf tape = ap (λ k. readAll k rest) (sym at) ∙ ap (behindSetup (length tape)) (sym e) in
+    (h .1, subst (Covers (length (encodedSetup s)) rest) same (read-covers (length rest) (length (encodedSetup s)) rest (known .1) (omega arith)))

@@ -1,15 +1,18 @@
 // What stands on a tape, as text.
 ghost use mathlib.Core.Path.{_≡_};
-ghost use mathlib.Core.List.{_++_};
-ghost use Prim.Native.Nat.{_+_, _^_, _<_};
+ghost use mathlib.Core.List.{List, _++_};
+ghost use Prim.Native.Nat.{ℕ, _+_, _^_, _<_};
 ghost use lib.ListN.{length, take, drop};
 ghost use Rattle.std.specs.Of.Vec.{vec-items};
 ghost use Rattle.std.specs.Vec.{made};
 ghost use Rattle.std.specs.declared.option.Option.the-variants.{Some};
 ghost use Rattle.std.specs.shelf.Lists.{joined, map};
 ghost use Rattle.tape.specs.Lines.{line, linesOf};
-ghost use Rattle.tape.specs.Readings.{readAll, ends};
-ghost use Rattle.tape_dump.specs.Dumps.{readingLines, readingOf, dumped, entryOf};
+ghost use Rattle.std.specs.declared.result.Result.the-variants.{Ok};
+ghost use Rattle.terms.specs.declared.setup.Setup.{Setup as AnySetup};
+ghost use Rattle.tape.specs.Readings.{readAll, ends, Covers};
+ghost use Rattle.tape.specs.Setups.{encodedSetup};
+ghost use Rattle.tape_dump.specs.Dumps.{readingLines, setupOf, readingOf, dumped, entryOf};
 use crate::text::push_count;
 use crate::text::push_message;
 use crate::text::push_setup;
@@ -57,6 +60,7 @@ fn push_messages(text: &mut Vec<u8>, start: usize, bytes: &[u8]) -> Result<(), A
 // The text for a tape.
 pub fn dump_tape(heap: Global, tape: &[u8]) -> Result<Vec<u8>, AllocError>
     ensures prints { λ r. ⌜ made r (λ text. vec-items text ≡ dumped (now (tape .entry))) ⌝ }
+    ensures covers { λ r. ⌜ made r (λ _. (s : AnySetup) (rest : List ℕ) → setupOf (now (tape .entry)) ≡ Ok (s, rest) → (now (tape .entry) ≡ encodedSetup s ++ rest) × Covers (length (encodedSetup s)) rest (readingOf (now (tape .entry)))) ⌝ }
     ensures reads_back { λ r. ⌜ made r (λ text. map entryOf (take (length (readingOf (now (tape .entry)) .messages)) (drop 1 (linesOf (vec-items text)))) ≡ map Some (readingOf (now (tape .entry)) .messages)) ⌝ }
 {
     let mut text = Vec::new(heap);

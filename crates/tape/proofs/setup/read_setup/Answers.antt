@@ -29,7 +29,7 @@ pub returns-in-Break-numbers : need.returns-in-Break-numbers
 returns-in-Break-numbers c =
     let p = err-from-errBy (c .from-residual .result) (c .from-residual .ensures .1) in
     let bs = c .args .bytes .now in
-    let reads = ap tested (c .in-Break-numbers .ensures tt) in
+    let reads = ap tested (c .in-Break-numbers .ensures tt .reads) in
     rw (p .1, p .2)
     (record {
       reads = reads;
@@ -42,7 +42,7 @@ pub returns-in-Break-setup : need.returns-in-Break-setup
 returns-in-Break-setup c =
     let p = err-from-errBy (c .from-residual-in-Break-setup .result) (c .from-residual-in-Break-setup .ensures .1) in
     let bs = c .args .bytes .now in
-    let reads = ap (λ r. before r (c .in-Continue-numbers .rest .now)) (c .in-Break-setup .ensures tt .value) ∙ ap tested (c .in-Continue-numbers .ensures tt) in
+    let reads = ap (λ r. before r (c .in-Continue-numbers .rest .now)) (c .in-Break-setup .ensures tt .value) ∙ ap tested (c .in-Continue-numbers .ensures tt .reads) in
     rw (p .1, p .2)
     (record {
       reads = reads;
@@ -54,7 +54,7 @@ returns-in-Break-setup c =
 pub returns : need.returns
 returns c =
     let bs = c .args .bytes .now in
-    let reads = ap (λ r. before r (c .in-Continue-numbers .rest .now)) (c .in-Continue-setup .ensures tt .value) ∙ ap tested (c .in-Continue-numbers .ensures tt) in
+    let reads = ap (λ r. before r (c .in-Continue-numbers .rest .now)) (c .in-Continue-setup .ensures tt .value) ∙ ap tested (c .in-Continue-numbers .ensures tt .reads) in
     record {
       reads = reads;
       gives-back = back bs (λ i. omega (arith, c .typed .bytes i)) _ reads;

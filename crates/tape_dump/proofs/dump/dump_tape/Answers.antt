@@ -2,6 +2,7 @@ use mathlib.Core.Path.{_≡_, refl, sym, ap, _∙_}
 use mathlib.Core.List.{List, _++_}
 use Prim.Native.Nat.{ℕ, _-_, _≤_}
 use native.Mathlib.Omega.{arith}
+use borrow.Author.Needs.{needs}
 use lib.ListN.{length, take, drop, length-append}
 use Rattle.std.specs.Of.Vec.{vec-items}
 use Rattle.std.specs.declared.option.Option.the-variants.{Some}
@@ -11,7 +12,7 @@ use Rattle.tape.specs.Lines.{line, linesOf}
 use Rattle.tape.specs.Readings.{readAll, ends}
 use Rattle.tape.specs.Setups.{encodedSetup}
 use Rattle.tape_dump.specs.Dumps.{setupWords, readingLines, readingOf, entryOf}
-use Rattle.tape_dump.proofs.Back.{dump-back, dumped-read}
+use Rattle.tape_dump.proofs.Back.{dump-back, dump-covers, dumped-read}
 use Rattle.tape_dump.proofs.dump.dump_tape.Needs as need
 
 pub sub-tape : need.sub-tape
@@ -32,6 +33,7 @@ returns-in-Continue-push-messages c =
     ∙ dumped-read tape (Ok (s, rest)) (c .if-tape-gt-TAPE-MAX .left) (c .in-Ok .ensures tt .reads) in
     record {
       prints = prints;
+      covers = dump-covers tape (λ i. omega (arith, c .typed .tape i));
       reads-back =
           ap (λ bs. map entryOf (take (length (readingOf tape .messages)) (drop 1 (linesOf bs)))) prints
           ∙ dump-back tape (λ i. omega (arith, c .typed .tape i)) (omega arith);
@@ -47,7 +49,16 @@ returns-in-Continue-push-refused-2 c =
     ∙ dumped-read tape (Err e) (c .if-tape-gt-TAPE-MAX .left) (c .in-Err .ensures tt .reads) in
     record {
       prints = prints;
+      covers = dump-covers tape (λ i. omega (arith, c .typed .tape i));
       reads-back =
           ap (λ bs. map entryOf (take (length (readingOf tape .messages)) (drop 1 (linesOf bs)))) prints
           ∙ dump-back tape (λ i. omega (arith, c .typed .tape i)) (omega arith);
+    }
+
+pub returns-then-tape-gt-TAPE-MAX : need.returns-then-tape-gt-TAPE-MAX
+returns-then-tape-gt-TAPE-MAX c =
+    record {
+      prints = search needs;
+      covers = dump-covers (c .args .tape .now) (λ i. omega (arith, c .typed .tape i));
+      reads-back = search needs;
     }

@@ -10,12 +10,12 @@ returns g c =
     let change = c.args.change.now in
     let buys = g.B.Queue.held c.args.buys.now in
     let sells = g.S.Queue.held c.args.sells.now in
-    let long : (is_trading (phase_in s) && ltb c.args.places (buys.capacity + sells.capacity)) ≡ false = sym ((λ i. is_trading (phase_in s) && ltb c.args.places (c.capacity.ensures.holds i + c.capacity-2.ensures.holds i))) ∙ sym c.if-is-short.ensures in
+    let long : (is_trading (phase_in s) && ltb c.args.places (buys.capacity + sells.capacity)) ≡ false = sym ((λ i. is_trading (phase_in s) && ltb c.args.places (c.capacity.ensures.holds i + c.capacity-2.ensures.holds i))) ∙ sym c.if-is_short.ensures in
     record {
       answers = λ l k quote.
           let b = book_of (phase_in s) c.args.terms.now c.args.next quote buys sells (λ us. band_in s) in
-          let same : first_of (change_checks change c.args.places b) ≡ first_of (found_checks change (found b change.order) b) = rw (sym c.if-bad-member.ensures, sym c.if-bad-price.ensures, sym c.if-bad-lots.ensures, long) refl in
-          subst (Checked c.check-found.result (found b change.order)) (sym same) (c.check-found.ensures.answers l k c.args.terms.now quote);
-      sound = c.check-found.ensures.sound;
-      turns = c.check-found.ensures.turns;
+          let same : first_of (change_checks change c.args.places b) ≡ first_of (found_checks change (found b change.order) b) = rw (sym c.if-bad_member.ensures, sym c.if-bad_price.ensures, sym c.if-bad_lots.ensures, long) refl in
+          subst (Checked c.check_found.result (found b change.order)) (sym same) (c.check_found.ensures.answers l k c.args.terms.now quote);
+      sound = c.check_found.ensures.sound;
+      turns = c.check_found.ensures.turns;
     }

@@ -23,8 +23,8 @@ returns-in-Some-rise g c =
       turns = tt;
     }
 
-pub returns-then-is-turn-taken : goal.returns-then-is-turn-taken
-returns-then-is-turn-taken g c =
+pub returns-then-is_turn_taken : goal.returns-then-is_turn_taken
+returns-then-is_turn_taken g c =
     let f = c.in-Some.found in
     let s = c.args.setting in
     let change = c.args.change.now in
@@ -34,8 +34,8 @@ returns-then-is-turn-taken g c =
     record {
       answers = λ l k terms quote.
           ap (λ o. first_of (found_checks change o (book_of (phase_in s) terms c.args.next quote buys sells (λ us. band_in s)))) (sym (c.in-Some.ensures.finds l k))
-          ∙ turn_taken change f terms c.args.next quote buys sells owner s c.is-turn-taken.result c.in-default-rise.ensures (sym c.if-keeps-place.ensures) (sym c.if-turns-used-up.ensures) (c.is-turn-taken.ensures (phase_in s) terms quote (λ us. band_in s))
-          ∙ ap (λ u. cond u (Some AlreadyHeld) None) c.if-is-turn-taken.true;
+          ∙ turn_taken change f terms c.args.next quote buys sells owner s c.is_turn_taken.result c.in_default-rise.ensures (sym c.if-keeps_place.ensures) (sym c.if-turns_used_up.ensures) (c.is_turn_taken.ensures (phase_in s) terms quote (λ us. band_in s))
+          ∙ ap (λ u. cond u (Some AlreadyHeld) None) c.if-is_turn_taken.true;
       sound = tt;
       turns = tt;
     }
@@ -51,10 +51,10 @@ returns g c =
     record {
       answers = λ l k terms quote. (
         ap (λ o. first_of (found_checks change o (book_of (phase_in s) terms c.args.next quote buys sells (λ us. band_in s)))) (sym (c.in-Some.ensures.finds l k))
-            ∙ turn_taken change f terms c.args.next quote buys sells owner s c.is-turn-taken.result c.in-default-rise.ensures (sym c.if-keeps-place.ensures) (sym c.if-turns-used-up.ensures) (c.is-turn-taken.ensures (phase_in s) terms quote (λ us. band_in s))
-            ∙ ap (λ u. cond u (Some AlreadyHeld) None) c.if-is-turn-taken.false,
+            ∙ turn_taken change f terms c.args.next quote buys sells owner s c.is_turn_taken.result c.in_default-rise.ensures (sym c.if-keeps_place.ensures) (sym c.if-turns_used_up.ensures) (c.is_turn_taken.ensures (phase_in s) terms quote (λ us. band_in s))
+            ∙ ap (λ u. cond u (Some AlreadyHeld) None) c.if-is_turn_taken.false,
         sym (c.in-Some.ensures.finds l k),
       );
-      sound = c.find-order.ensures.sound;
-      turns = λ _. let t = c.if-turns-used-up.ensures in grind (arith, nat_tests);
+      sound = c.find_order.ensures.sound;
+      turns = λ _. let t = c.if-turns_used_up.ensures in grind (arith, nat_tests);
     }

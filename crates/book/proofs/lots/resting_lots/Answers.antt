@@ -13,28 +13,28 @@ loop-preserved g c =
     let es = (g.Q.Queue.held c.args.q.now).elements in
     let r = g.met.E.Ranked in
     let i = c.loop.counter in
-    let small = c.lots-at.type-inv in
+    let small = c.lots_at.type_inv in
     let v = c.loop.invariant in (
       omega arith,
       λ l.
           let first = sym c.in-Some.is ∙ (v.1 l).0 in
           let split = ap (λ xs. resting_lots (map g.E.Sided.plain xs)) (head-is es i c.in-Some.e first).2 in (
-            c.first-after-next.ensures l ∙ next-after g.E.Ranked.rank.before r.irreflexive r.transitive es i c.in-Some.e (c.count-end.ensures.sound l).elements.sorted first,
-            omega (arith, (v.1 l).1, split, c.lots-at.ensures),
+            c.first_after-next.ensures l ∙ next-after g.E.Ranked.rank.before r.irreflexive r.transitive es i c.in-Some.e (c.count-end.ensures.sound l).elements.sorted first,
+            omega (arith, (v.1 l).1, split, c.lots_at.ensures),
           ),
     )
 
-pub overflow-add-sum : goal.overflow-add-sum
-overflow-add-sum g c = let small = c.lots-at.type-inv in let v = c.loop.invariant.0 in omega arith
+pub overflow_add-sum : goal.overflow_add-sum
+overflow_add-sum g c = let small = c.lots_at.type_inv in let v = c.loop.invariant.0 in omega arith
 
-pub returns-in-default : goal.returns-in-default
-returns-in-default g c =
+pub returns-in_default : goal.returns-in_default
+returns-in_default g c =
     let es = (g.Q.Queue.held c.args.q.now).elements in
     let v = c.loop.invariant in
     record {
-      small = let n = c.count-end.type-inv in let t = c.loop-test.true in omega (arith, v.0);
+      small = let n = c.count-end.type_inv in let t = c.loop-test.true in omega (arith, v.0);
       lots = λ l.
-          let none = ap (λ xs. resting_lots (map g.E.Sided.plain xs)) (drop_all c.loop.counter es (head_none es c.loop.counter (sym c.in-default.is ∙ (v.1 l).0))) in
+          let none = ap (λ xs. resting_lots (map g.E.Sided.plain xs)) (drop_all c.loop.counter es (head_none es c.loop.counter (sym c.in_default.is ∙ (v.1 l).0))) in
           omega (arith, (v.1 l).1, none);
     }
 
@@ -43,7 +43,7 @@ returns-after-loop g c =
     let es = (g.Q.Queue.held c.args.q.now).elements in
     let v = c.loop.invariant in
     record {
-      small = let n = c.count-end.type-inv in let k = c.loop.auto.counter-end in omega (arith, v.0);
+      small = let n = c.count-end.type_inv in let k = c.loop.auto.counter-end in omega (arith, v.0);
       lots = λ l.
           let none = ap (λ xs. resting_lots (map g.E.Sided.plain xs)) (drop_all c.loop.counter es (omega (arith, c.count-end.ensures.counts))) in
           omega (arith, (v.1 l).1, none);

@@ -6,10 +6,10 @@ use Rattle.book.proofs.lots.traded_lots.Goals as goal
 pub loop-t-preserved : goal.loop-t-preserved
 loop-t-preserved c =
     let v = c.loop-t.invariant in
-    let small = c.lots-of.type-inv in
-    let split : traded_lots (drop c.loop-t.t-index c.args.trades.now) ≡ c.lots-of.result + traded_lots (drop (c.loop-t.t-index + 1) c.args.trades.now) =
+    let small = c.lots_of.type_inv in
+    let split : traded_lots (drop c.loop-t.t-index c.args.trades.now) ≡ c.lots_of.result + traded_lots (drop (c.loop-t.t-index + 1) c.args.trades.now) =
     at_drop_more traded_lots c.args.trades.now c.loop-t.t-index _ c.loop-t-test.true
-    ∙ ap (λ n. n + traded_lots (drop (c.loop-t.t-index + 1) c.args.trades.now)) (sym c.lots-of.ensures) in
+    ∙ ap (λ n. n + traded_lots (drop (c.loop-t.t-index + 1) c.args.trades.now)) (sym c.lots_of.ensures) in
     (omega arith, omega arith)
 
 pub returns : goal.returns

@@ -22,7 +22,7 @@ loop-lots-preserved g c =
             ap (λ h. h.capacity) cut ∙ unless_capacity _ held _ ∙ w.1,
             λ f.
                 let on =
-                meet_cut g.E.Sided.plain g.E.Ranked.rank (other c.args.incoming.now.side) c.requires held c.in-Some.first (c.in-Some.ensures w.0) c.args.band c.args.incoming.now.side (incoming_of c.args.incoming.now) c.loop-lots.lots c.min-dealt.result c.loop-lots.next c.loop-lots.trades c.order-resting.result (g.Q.Queue.held c.cut.new.self) c.order-resting.ensures some c.min-dealt.ensures (sym c.if-not-can-meet.ensures) ((w.2 f).0 some) cut in
+                meet_cut g.E.Sided.plain g.E.Ranked.rank (other c.args.incoming.now.side) c.requires held c.in-Some.first (c.in-Some.ensures w.0) c.args.band c.args.incoming.now.side (incoming_of c.args.incoming.now) c.loop-lots.lots c.min-dealt.result c.loop-lots.next c.loop-lots.trades c.order-resting.result (g.Q.Queue.held c.cut.new.self) c.order-resting.ensures some c.min-dealt.ensures (sym c.if-not-can_meet.ensures) ((w.2 f).0 some) cut in
                 subst (λ t. (0 < c.loop-lots.lots - c.min-dealt.result → Fits (map g.E.Sided.plain (g.Q.Queue.held c.cut.new.self).elements) (c.loop-lots.next + 1) (set c.loop-lots.trades c.loop-lots.next t)) × (meet_at c.args.band c.args.incoming.now.side (incoming_of c.args.incoming.now) (c.loop-lots.lots - c.min-dealt.result) (map g.E.Sided.plain (g.Q.Queue.held c.cut.new.self).elements) (c.loop-lots.next + 1) (set c.loop-lots.trades c.loop-lots.next t) ≡ meet_at c.args.band c.args.incoming.now.side (incoming_of c.args.incoming.now) c.args.incoming.now.lots (map g.E.Sided.plain (g.Q.Queue.held c.args.opposite.now).elements) c.args.place c.args.trades.now)) (sym c.trade.ensures) (on.1.fits, on.1.meets ∙ (w.2 f).1),
           ),
     )
@@ -45,8 +45,8 @@ returns-then-lots-eq0 g c =
           ∙ w.1;
     }
 
-pub returns-in-default : goal.returns-in-default
-returns-in-default g c =
+pub returns-in_default : goal.returns-in_default
+returns-in_default g c =
     let v = c.loop-lots.invariant in
     record {
       places = (v.0.0, λ h. omega (arith, v.0.1 h, c.loop-lots.auto.trades));
@@ -54,12 +54,12 @@ returns-in-default g c =
       keeps = λ l. (v.1 l).0;
       capacity = λ l. (v.1 l).1;
       meets = λ l f.
-          stops_empty g.E.Sided.plain (g.Q.Queue.held c.loop-lots.opposite).elements c.args.band c.args.incoming.now.side (incoming_of c.args.incoming.now) c.loop-lots.lots c.loop-lots.next c.loop-lots.trades (c.in-default.ensures (v.1 l).0)
+          stops_empty g.E.Sided.plain (g.Q.Queue.held c.loop-lots.opposite).elements c.args.band c.args.incoming.now.side (incoming_of c.args.incoming.now) c.loop-lots.lots c.loop-lots.next c.loop-lots.trades (c.in_default.ensures (v.1 l).0)
           ∙ ((v.1 l).2 f).1;
     }
 
-pub returns-then-not-can-meet : goal.returns-then-not-can-meet
-returns-then-not-can-meet g c =
+pub returns-then-not-can_meet : goal.returns-then-not-can_meet
+returns-then-not-can_meet g c =
     let v = c.loop-lots.invariant in
     record {
       places = (v.0.0, λ h. omega (arith, v.0.1 h, c.loop-lots.auto.trades));
@@ -67,6 +67,6 @@ returns-then-not-can-meet g c =
       keeps = λ l. (v.1 l).0;
       capacity = λ l. (v.1 l).1;
       meets = λ l f.
-          stops_apart g.E.Sided.plain g.E.Ranked.rank (other c.args.incoming.now.side) c.requires (g.Q.Queue.held c.loop-lots.opposite) c.in-Some.first (c.in-Some.ensures (v.1 l).0) c.args.band c.args.incoming.now.side (incoming_of c.args.incoming.now) c.loop-lots.lots c.loop-lots.next c.loop-lots.trades c.order-resting.result c.order-resting.ensures (sym c.if-not-can-meet.ensures)
+          stops_apart g.E.Sided.plain g.E.Ranked.rank (other c.args.incoming.now.side) c.requires (g.Q.Queue.held c.loop-lots.opposite) c.in-Some.first (c.in-Some.ensures (v.1 l).0) c.args.band c.args.incoming.now.side (incoming_of c.args.incoming.now) c.loop-lots.lots c.loop-lots.next c.loop-lots.trades c.order-resting.result c.order-resting.ensures (sym c.if-not-can_meet.ensures)
           ∙ ((v.1 l).2 f).1;
     }

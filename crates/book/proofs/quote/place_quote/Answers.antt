@@ -15,30 +15,30 @@ pub returns : goal.returns
 returns g c =
     record {
       keeps = (
-        (λ l. c.sweep-count.ensures.keeps.0 (c.put.ensures.keeps (c.take-leg.ensures.keeps l))),
-        λ k. c.sweep-count.ensures.keeps.1 (c.put-2.ensures.keeps (c.take-leg-2.ensures.keeps k)),
+        (λ l. c.sweep-count.ensures.keeps.0 (c.put.ensures.keeps (c.take_leg.ensures.keeps l))),
+        λ k. c.sweep-count.ensures.keeps.1 (c.put-2.ensures.keeps (c.take_leg-2.ensures.keeps k)),
       );
       told = c.tell.ensures;
       places = λ l k p terms w.
           let q = c.args.entry.now in
           let table = c.args.trades.now in
           let b = book_of p terms c.args.next c.args.old (g.B.Queue.held c.args.buys.now) (g.S.Queue.held c.args.sells.now) (g.R.PriceRange.answers c.args.range.now) in
-          let l₁ = c.take-leg.ensures.keeps l in
-          let k₁ = c.take-leg-2.ensures.keeps k in
+          let l₁ = c.take_leg.ensures.keeps l in
+          let k₁ = c.take_leg-2.ensures.keeps k in
           let l₂ = c.put.ensures.keeps l₁ in
           let k₂ = c.put-2.ensures.keeps k₁ in
-          let buys₁ = c.take-leg.ensures.leaves l ∙ ap (λ n. holding b.buys (without n b.buys.elements)) c.bid-of.ensures in
-          let sells₁ = c.take-leg-2.ensures.leaves k ∙ ap (λ n. holding b.sells (without n b.sells.elements)) c.ask-of.ensures in
+          let buys₁ = c.take_leg.ensures.leaves l ∙ ap (λ n. holding b.buys (without n b.buys.elements)) c.bid_of.ensures in
+          let sells₁ = c.take_leg-2.ensures.leaves k ∙ ap (λ n. holding b.sells (without n b.sells.elements)) c.ask_of.ensures in
           let buys₂ =
-          leg_placed (λ o. o.0) buy_rank Buy buys_carried b.buys (without (bid_of b.quote) b.buys.elements) (g.B.Queue.held c.take-leg.new.q) (g.B.Queue.held c.put.new.self) (record { 0 = c.leg.result }) (bid_leg q b.next) buys₁ (c.put.ensures.leaves l₁) c.leg.ensures (bid_room q b table w) in
+          leg_placed (λ o. o.0) buy_rank Buy buys_carried b.buys (without (bid_of b.quote) b.buys.elements) (g.B.Queue.held c.take_leg.new.q) (g.B.Queue.held c.put.new.self) (record { 0 = c.leg.result }) (bid_leg q b.next) buys₁ (c.put.ensures.leaves l₁) c.leg.ensures (bid_room q b table w) in
           let sells₂ =
-          leg_placed (λ o. o.0) sell_rank Sell sells_carried b.sells (without (ask_of b.quote) b.sells.elements) (g.S.Queue.held c.take-leg-2.new.q) (g.S.Queue.held c.put-2.new.self) (record { 0 = c.leg-2.result }) (ask_leg q (b.next + 1)) sells₁ (c.put-2.ensures.leaves k₁) c.leg-2.ensures (ask_room q b table w) in
+          leg_placed (λ o. o.0) sell_rank Sell sells_carried b.sells (without (ask_of b.quote) b.sells.elements) (g.S.Queue.held c.take_leg-2.new.q) (g.S.Queue.held c.put-2.new.self) (record { 0 = c.leg-2.result }) (ask_leg q (b.next + 1)) sells₁ (c.put-2.ensures.leaves k₁) c.leg-2.ensures (ask_room q b table w) in
           let fits = fits_by (plain_buys (g.B.Queue.held c.put.new.self)) (plain_sells (g.S.Queue.held c.put-2.new.self)) (holding b.buys (quoted_buys q b)) (holding b.sells (quoted_sells q b)) table buys₂ sells₂ (quote_fits q b table w) in
           let count : c.sweep-count.result - 0 ≡ c.sweep-count.result = omega arith in
-          quote_placed q b table c.sweep-count.new.trades c.band.result c.sweep-count.result c.traded-lots.result _ _ (plain_buys (g.B.Queue.held c.put.new.self)) (plain_sells (g.S.Queue.held c.put-2.new.self)) (plain_buys (g.B.Queue.held c.sweep-count.new.buys)) (plain_sells (g.S.Queue.held c.sweep-count.new.sells)) buys₂ sells₂
+          quote_placed q b table c.sweep-count.new.trades c.band.result c.sweep-count.result c.traded_lots.result _ _ (plain_buys (g.B.Queue.held c.put.new.self)) (plain_sells (g.S.Queue.held c.put-2.new.self)) (plain_buys (g.B.Queue.held c.sweep-count.new.buys)) (plain_sells (g.S.Queue.held c.sweep-count.new.sells)) buys₂ sells₂
           (c.band.ensures ∙ c.tell.ensures [])
           (c.sweep-count.ensures.sweeps l₂ k₂ fits) (c.sweep-count.ensures.capacity.0 l₂) (c.sweep-count.ensures.capacity.1 k₂)
-          (c.traded-lots.ensures ∙ ap (λ n. traded_lots (take n c.sweep-count.new.trades)) count)
-          (λ i. c.lots-under.ensures.lots (c.sweep-count.ensures.keeps.0 l₂) i + c.lots-under-2.ensures.lots (c.sweep-count.ensures.keeps.1 k₂) i)
-          (λ i. (c.take-leg.ensures.lots l ∙ ap (λ n. leg_lots n b.buys.elements) c.bid-of.ensures) i + (c.take-leg-2.ensures.lots k ∙ ap (λ n. leg_lots n b.sells.elements) c.ask-of.ensures) i);
+          (c.traded_lots.ensures ∙ ap (λ n. traded_lots (take n c.sweep-count.new.trades)) count)
+          (λ i. c.lots_under.ensures.lots (c.sweep-count.ensures.keeps.0 l₂) i + c.lots_under-2.ensures.lots (c.sweep-count.ensures.keeps.1 k₂) i)
+          (λ i. (c.take_leg.ensures.lots l ∙ ap (λ n. leg_lots n b.buys.elements) c.bid_of.ensures) i + (c.take_leg-2.ensures.lots k ∙ ap (λ n. leg_lots n b.sells.elements) c.ask_of.ensures) i);
     }

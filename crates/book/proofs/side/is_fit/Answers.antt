@@ -9,9 +9,9 @@ returns g c =
     let held = g.Q.Queue.held c.args.q.now in
     let long = c.count.ensures.counts ∙ sym (map-length g.E.Sided.plain held.elements) in
     record {
-      fits = c.can-open.ensures ∙ (λ i. eqb (long i) 0 && within 1 1024 (c.capacity.ensures.holds i));
+      fits = c.can_open.ensures ∙ (λ i. eqb (long i) 0 && within 1 1024 (c.capacity.ensures.holds i));
       lawful = λ t.
-          let u = sym c.can-open.ensures ∙ t in
+          let u = sym c.can_open.ensures ∙ t in
           let none : c.count.result ≡ 0 = grind (arith, nat_tests) in
           c.count.ensures.empty (sym c.count.ensures.counts ∙ none);
     }

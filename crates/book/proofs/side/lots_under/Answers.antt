@@ -5,7 +5,7 @@ use Rattle.book.proofs.side.lots_under.Goals as goal
 pub returns-in-Some : goal.returns-in-Some
 returns-in-Some g c =
     record {
-      small = omega (arith, c.lots.type-inv, c.from.ensures);
+      small = omega (arith, c.lots.type_inv, c.from.ensures);
       lots = λ l. lots_some g.E.Sided.plain g.E.Ranked.rank c.args.side c.requires (g.Q.Queue.held c.args.q.now) c.args.number c.in-Some.e c.from.result (c.in-Some.ensures.finds l) (c.from.ensures ∙ c.lots.ensures);
     }
 

@@ -12,7 +12,7 @@ returns-in-Some-take g c =
     let n = c.in-Some.number in
     let took = c.in-Some-take.ensures in
     record {
-      small = omega (arith, c.lots.type-inv, c.from.ensures);
+      small = omega (arith, c.lots.type_inv, c.from.ensures);
       keeps = took.keeps;
       lots = λ l.
           lots_some f g.E.Ranked.rank c.args.side c.requires held n c.in-Some-take.e c.from.result (took.answers l) (c.from.ensures ∙ c.lots.ensures)

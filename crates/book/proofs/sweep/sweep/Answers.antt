@@ -22,15 +22,15 @@ loop-buy-preserved g c =
           (on.0, on.1 ∙ w.1),
     )
 
-pub returns-in-default : goal.returns-in-default
-returns-in-default g c =
+pub returns-in_default : goal.returns-in_default
+returns-in_default g c =
     let v = c.loop-buy.invariant in
     record {
       places = omega (arith, v.0, c.loop-buy.auto.trades);
       keeps = ((λ l. (v.1 l).0), λ l. (v.2 l).0);
       capacity = ((λ l. (v.1 l).1), λ l. (v.2 l).1);
       sweeps = λ l k f.
-          sweep_none (λ o. o.0) (g.B.Queue.held c.loop-buy.buys).elements c.args.band (map (λ o. o.0) (g.S.Queue.held c.loop-buy.sells).elements) c.loop-buy.place c.loop-buy.trades (c.in-default.ensures (v.1 l).0)
+          sweep_none (λ o. o.0) (g.B.Queue.held c.loop-buy.buys).elements c.args.band (map (λ o. o.0) (g.S.Queue.held c.loop-buy.sells).elements) c.loop-buy.place c.loop-buy.trades (c.in_default.ensures (v.1 l).0)
           ∙ (v.3 l k f).1;
     }
 

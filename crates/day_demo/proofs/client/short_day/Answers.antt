@@ -4,7 +4,7 @@ use Rattle.day_demo.proofs.client.short_day.Goals as goal
 pub returns : goal.returns
 returns g c =
     let ρ = g.R.PriceRange.answers c.args.range.now in
-    let opened = c.in-ok-waiting.ensures in
+    let opened = c.in_ok-waiting.ensures in
     let l₀ = opened.lawful.0 in
     let k₀ = opened.lawful.1 in
     let d₀ = (opened.day ρ).0 in

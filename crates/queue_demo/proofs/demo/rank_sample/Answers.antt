@@ -5,23 +5,23 @@ use Rattle.queue_demo.specs.Sample.{buys_before}
 use Rattle.queue_demo.proofs.Ranks.{or_ranked, ranked_through}
 use Rattle.queue_demo.proofs.demo.rank_sample.Goals as goal
 
-pub returns-in-err-rank-through : goal.returns-in-err-rank-through
-returns-in-err-rank-through g c =
-    let p = err_from_is_err_and c.from-residual.result c.from-residual.ensures.1 in
-    let r = ranked_through (g.Q.Queue.held c.args.q.now) _ c.rank-through.result c.sample-orders.ensures c.rank-through.ensures.unfit c.rank-through.ensures.answers in
+pub returns-in_err-rank_through : goal.returns-in_err-rank_through
+returns-in_err-rank_through g c =
+    let p = err_from_is_err_and c.from_residual.result c.from_residual.ensures.1 in
+    let r = ranked_through (g.Q.Queue.held c.args.q.now) _ c.rank_through.result c.sample-orders.ensures c.rank_through.ensures.unfit c.rank_through.ensures.answers in
     record {
-      gives = p.1 ∙ ap Err p.2 ∙ ap or_ranked (sym c.in-err-rank-through.was) ∙ r;
-      ranks = IfOk-from_err c.from-residual.result _ c.from-residual.ensures.0;
-      leaves = c.rank-through.ensures.leaves;
+      gives = p.1 ∙ ap Err p.2 ∙ ap or_ranked (sym c.in_err-rank_through.was) ∙ r;
+      ranks = IfOk-from_err c.from_residual.result _ c.from_residual.ensures.0;
+      leaves = c.rank_through.ensures.leaves;
     }
 
 pub returns : goal.returns
 returns g c =
     let entered = c.sample-orders.ensures in
-    let r = ranked_through (g.Q.Queue.held c.args.q.now) _ c.rank-through.result entered c.rank-through.ensures.unfit c.rank-through.ensures.answers in
-    let done = c.in-ok-rank-through.ensures in
+    let r = ranked_through (g.Q.Queue.held c.args.q.now) _ c.rank_through.result entered c.rank_through.ensures.unfit c.rank_through.ensures.answers in
+    let done = c.in_ok-rank_through.ensures in
     record {
-      gives = ap Ok (done.gives ∙ ap (λ os. insert_all buys_before os []) entered) ∙ ap or_ranked (sym c.in-ok-rank-through.was) ∙ r;
-      ranks = (done.ranks.0, subst (λ os. SameElements os c.rank-through.new.elements) entered done.ranks.1);
-      leaves = c.rank-through.ensures.leaves;
+      gives = ap Ok (done.gives ∙ ap (λ os. insert_all buys_before os []) entered) ∙ ap or_ranked (sym c.in_ok-rank_through.was) ∙ r;
+      ranks = (done.ranks.0, subst (λ os. SameElements os c.rank_through.new.elements) entered done.ranks.1);
+      leaves = c.rank_through.ensures.leaves;
     }

@@ -4,8 +4,8 @@ use Rattle.std.proofs.lemmas.Fmt.{decimal_digit, decimal_nonempty}
 use Rattle.tape.proofs.Decimals.{length_one, length-step, set_last, digit_moved, places_left, digits_put}
 use Rattle.tape.proofs.decimal.write_digits.Goals as goal
 
-pub overflow-sub-last : goal.overflow-sub-last
-overflow-sub-last c = omega (arith, decimal_nonempty c.args.n (omega arith))
+pub overflow_sub-last : goal.overflow_sub-last
+overflow_sub-last c = omega (arith, decimal_nonempty c.args.n (omega arith))
 
 pub loop-rest-init : goal.loop-rest-init
 loop-rest-init c =
@@ -14,8 +14,8 @@ loop-rest-init c =
     let out = c.args.out.now in
     (omega arith, ([], sym (append-nil _), omega (arith, q), sym (take-append-drop c.args.end out) ∙ ap (λ k. take k out ++ drop c.args.end out) (sym q)))
 
-pub overflow-sub-last-in-loop-rest : goal.overflow-sub-last-in-loop-rest
-overflow-sub-last-in-loop-rest c =
+pub overflow_sub-last-in-loop-rest : goal.overflow_sub-last-in-loop-rest
+overflow_sub-last-in-loop-rest c =
     let s = c.loop-rest.invariant.1 in
     let rest = c.loop-rest.rest in
     omega (arith, places_left c.args.n rest c.loop-rest.last c.args.end s.0 s.1 s.2 c.requires.0, length-step rest (omega arith) (omega arith), decimal_nonempty (rest / 10) (omega arith))

@@ -20,19 +20,19 @@ pub loop-i-init : goal.loop-i-init
 loop-i-init g c =
     (length-replicate g.row.N 0, behind_none _ ∙ ap (λ k. read_numbers k c.args.bytes.now) (sub-zero g.row.N))
 
-pub returns-in-err-number : goal.returns-in-err-number
-returns-in-err-number g c =
-    let p = err_from_is_err_and c.from-residual.result c.from-residual.ensures.1 in
+pub returns-in_err-number : goal.returns-in_err-number
+returns-in_err-number g c =
+    let p = err_from_is_err_and c.from_residual.result c.from_residual.ensures.1 in
     let bs = c.args.bytes.now in
-    let reads = numbers_refused g.row.N c.loop-i.i _ _ _ (omega arith) c.in-err-number.ensures.reads ∙ c.loop-i.invariant.1 in
+    let reads = numbers_refused g.row.N c.loop-i.i _ _ _ (omega arith) c.in_err-number.ensures.reads ∙ c.loop-i.invariant.1 in
     rw (p.1, p.2)
-    (record { reads = reads; gives_back = back g.row.N bs _ reads; only = only g.row.N bs _ reads (λ i. omega (arith, c.type-inv.bytes i)) })
+    (record { reads = reads; gives_back = back g.row.N bs _ reads; only = only g.row.N bs _ reads (λ i. omega (arith, c.type_inv.bytes i)) })
 
 pub loop-i-preserved : goal.loop-i-preserved
 loop-i-preserved g c =
     let v = c.loop-i.invariant in (
       length-set _ _ _ ∙ v.0,
-      numbers_more g.row.N c.loop-i.i _ _ _ _ (omega arith) (omega arith) c.in-ok-number.ensures.reads ∙ v.1,
+      numbers_more g.row.N c.loop-i.i _ _ _ _ (omega arith) (omega arith) c.in_ok-number.ensures.reads ∙ v.1,
     )
 
 pub returns : goal.returns
@@ -40,4 +40,4 @@ returns g c =
     let v = c.loop-i.invariant in
     let bs = c.args.bytes.now in
     let reads = numbers_all g.row.N c.loop-i.i _ _ (omega arith) v.0 ∙ v.1 in
-    record { reads = reads; gives_back = back g.row.N bs _ reads; only = only g.row.N bs _ reads (λ i. omega (arith, c.type-inv.bytes i)) }
+    record { reads = reads; gives_back = back g.row.N bs _ reads; only = only g.row.N bs _ reads (λ i. omega (arith, c.type_inv.bytes i)) }

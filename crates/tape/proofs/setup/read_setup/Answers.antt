@@ -19,39 +19,39 @@ module _ (bs : List ℕ) (fits : (i : ℕ) → get_or bs i 0 < 256) (r : Result 
   followed : (s : Setup) (rest more : List ℕ) → r ≡ Ok (s, rest) → read_setup (bs ++ more) ≡ Ok (s, rest ++ more)
   followed s rest more e = setup_followed bs s rest more fits (sym reads ∙ e)
 
-pub returns-in-err-numbers : goal.returns-in-err-numbers
-returns-in-err-numbers c =
-    let p = err_from_is_err_and c.from-residual.result c.from-residual.ensures.1 in
+pub returns-in_err-numbers : goal.returns-in_err-numbers
+returns-in_err-numbers c =
+    let p = err_from_is_err_and c.from_residual.result c.from_residual.ensures.1 in
     let bs = c.args.bytes.now in
-    let reads = ap tested c.in-err-numbers.ensures.reads in
+    let reads = ap tested c.in_err-numbers.ensures.reads in
     rw (p.1, p.2)
     (record {
       reads = reads;
-      gives_back = back bs (λ i. omega (arith, c.type-inv.bytes i)) _ reads;
-      only = only bs (λ i. omega (arith, c.type-inv.bytes i)) _ reads;
-      followed = followed bs (λ i. omega (arith, c.type-inv.bytes i)) _ reads;
+      gives_back = back bs (λ i. omega (arith, c.type_inv.bytes i)) _ reads;
+      only = only bs (λ i. omega (arith, c.type_inv.bytes i)) _ reads;
+      followed = followed bs (λ i. omega (arith, c.type_inv.bytes i)) _ reads;
     })
 
-pub returns-in-err-setup : goal.returns-in-err-setup
-returns-in-err-setup c =
-    let p = err_from_is_err_and c.from-residual-in-err-setup.result c.from-residual-in-err-setup.ensures.1 in
+pub returns-in_err-setup : goal.returns-in_err-setup
+returns-in_err-setup c =
+    let p = err_from_is_err_and c.from_residual-in_err-setup.result c.from_residual-in_err-setup.ensures.1 in
     let bs = c.args.bytes.now in
-    let reads = ap (λ r. before r c.in-ok-numbers.rest.now) c.in-err-setup.ensures.value ∙ ap tested c.in-ok-numbers.ensures.reads in
+    let reads = ap (λ r. before r c.in_ok-numbers.rest.now) c.in_err-setup.ensures.value ∙ ap tested c.in_ok-numbers.ensures.reads in
     rw (p.1, p.2)
     (record {
       reads = reads;
-      gives_back = back bs (λ i. omega (arith, c.type-inv.bytes i)) _ reads;
-      only = only bs (λ i. omega (arith, c.type-inv.bytes i)) _ reads;
-      followed = followed bs (λ i. omega (arith, c.type-inv.bytes i)) _ reads;
+      gives_back = back bs (λ i. omega (arith, c.type_inv.bytes i)) _ reads;
+      only = only bs (λ i. omega (arith, c.type_inv.bytes i)) _ reads;
+      followed = followed bs (λ i. omega (arith, c.type_inv.bytes i)) _ reads;
     })
 
 pub returns : goal.returns
 returns c =
     let bs = c.args.bytes.now in
-    let reads = ap (λ r. before r c.in-ok-numbers.rest.now) c.in-ok-setup.ensures.value ∙ ap tested c.in-ok-numbers.ensures.reads in
+    let reads = ap (λ r. before r c.in_ok-numbers.rest.now) c.in_ok-setup.ensures.value ∙ ap tested c.in_ok-numbers.ensures.reads in
     record {
       reads = reads;
-      gives_back = back bs (λ i. omega (arith, c.type-inv.bytes i)) _ reads;
-      only = only bs (λ i. omega (arith, c.type-inv.bytes i)) _ reads;
-      followed = followed bs (λ i. omega (arith, c.type-inv.bytes i)) _ reads;
+      gives_back = back bs (λ i. omega (arith, c.type_inv.bytes i)) _ reads;
+      only = only bs (λ i. omega (arith, c.type_inv.bytes i)) _ reads;
+      followed = followed bs (λ i. omega (arith, c.type_inv.bytes i)) _ reads;
     }

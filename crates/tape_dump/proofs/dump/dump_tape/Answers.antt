@@ -7,50 +7,50 @@ use Rattle.tape_dump.specs.Dumps.{setup_words, reading_lines, reading_of, entry_
 use Rattle.tape_dump.proofs.Back.{dump_back, dump_covers, dumped_read}
 use Rattle.tape_dump.proofs.dump.dump_tape.Goals as goal
 
-pub overflow-sub-tape : goal.overflow-sub-tape
-overflow-sub-tape c =
+pub overflow_sub-tape : goal.overflow_sub-tape
+overflow_sub-tape c =
     let h = c.in-Ok.ensures.only c.in-Ok.setup c.in-Ok.rest.now refl in
     let long = ap length h.1 ∙ length-append (encoded_setup c.in-Ok.setup) c.in-Ok.rest.now in
     omega arith
 
-pub returns-in-ok-push-messages : goal.returns-in-ok-push-messages
-returns-in-ok-push-messages c =
+pub returns-in_ok-push_messages : goal.returns-in_ok-push_messages
+returns-in_ok-push_messages c =
     let tape = c.args.tape.now in
     let s = c.in-Ok.setup in
     let rest = c.in-Ok.rest.now in
     let lines = flat_map line (reading_lines (read_all (length tape - length rest) rest)) in
     let prints =
-    c.in-ok-push-messages.ensures
-    ∙ ap (λ bs. bs ++ lines) (c.in-ok-push-setup.ensures ∙ ap (λ bs. bs ++ line (setup_words s)) c.new-text.ensures.items)
+    c.in_ok-push_messages.ensures
+    ∙ ap (λ bs. bs ++ lines) (c.in_ok-push_setup.ensures ∙ ap (λ bs. bs ++ line (setup_words s)) c.new-text.ensures.items)
     ∙ dumped_read tape (Ok (s, rest)) c.if-tape-gt-TAPE-MAX.false c.in-Ok.ensures.reads in
     record {
       prints = prints;
-      covers = dump_covers tape (λ i. omega (arith, c.type-inv.tape i));
+      covers = dump_covers tape (λ i. omega (arith, c.type_inv.tape i));
       reads-back =
           ap (λ bs. map entry_of (take (length (reading_of tape).messages) (drop 1 (lines_of bs)))) prints
-          ∙ dump_back tape (λ i. omega (arith, c.type-inv.tape i)) (omega arith);
+          ∙ dump_back tape (λ i. omega (arith, c.type_inv.tape i)) (omega arith);
     }
 
-pub returns-in-ok-push-refused-2 : goal.returns-in-ok-push-refused-2
-returns-in-ok-push-refused-2 c =
+pub returns-in_ok-push_refused-2 : goal.returns-in_ok-push_refused-2
+returns-in_ok-push_refused-2 c =
     let tape = c.args.tape.now in
     let e = c.in-Err.refusal in
     let prints =
-    c.in-ok-push-refused-2.ensures
+    c.in_ok-push_refused-2.ensures
     ∙ ap (λ bs. bs ++ flat_map line (reading_lines (ends 0 (Some e)))) c.new-text.ensures.items
     ∙ dumped_read tape (Err e) c.if-tape-gt-TAPE-MAX.false c.in-Err.ensures.reads in
     record {
       prints = prints;
-      covers = dump_covers tape (λ i. omega (arith, c.type-inv.tape i));
+      covers = dump_covers tape (λ i. omega (arith, c.type_inv.tape i));
       reads-back =
           ap (λ bs. map entry_of (take (length (reading_of tape).messages) (drop 1 (lines_of bs)))) prints
-          ∙ dump_back tape (λ i. omega (arith, c.type-inv.tape i)) (omega arith);
+          ∙ dump_back tape (λ i. omega (arith, c.type_inv.tape i)) (omega arith);
     }
 
 pub returns-then-tape-gt-TAPE-MAX : goal.returns-then-tape-gt-TAPE-MAX
 returns-then-tape-gt-TAPE-MAX c =
     record {
       prints = search rules;
-      covers = dump_covers c.args.tape.now (λ i. omega (arith, c.type-inv.tape i));
+      covers = dump_covers c.args.tape.now (λ i. omega (arith, c.type_inv.tape i));
       reads-back = search rules;
     }

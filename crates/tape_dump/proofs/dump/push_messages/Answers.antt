@@ -8,8 +8,8 @@ use Rattle.tape_dump.specs.Dumps.{count_words}
 use Rattle.tape_dump.proofs.Lines.{lines_after, lines_none, printed_more, printed-all, printed_stop}
 use Rattle.tape_dump.proofs.dump.push_messages.Goals as goal
 
-pub overflow-sub-place : goal.overflow-sub-place
-overflow-sub-place c = omega (arith, message_shorter _ _ _ c.loop-rest.invariant.0 (sym c.in-Ok.ensures.reads))
+pub overflow_sub-place : goal.overflow_sub-place
+overflow_sub-place c = omega (arith, message_shorter _ _ _ c.loop-rest.invariant.0 (sym c.in-Ok.ensures.reads))
 
 pub loop-rest-smaller : goal.loop-rest-smaller
 loop-rest-smaller c = message_shorter _ _ _ c.loop-rest.invariant.0 (sym c.in-Ok.ensures.reads)
@@ -22,21 +22,21 @@ loop-rest-preserved c =
       message_bytes _ _ _ v.0 (sym read),
       omega arith,
       omega arith,
-      printed_more (vec_items c.loop-rest.text) _ _ c.loop-rest.messages c.loop-rest.place _ _ _ v.0 read c.in-ok-push-message.ensures v.3,
+      printed_more (vec_items c.loop-rest.text) _ _ c.loop-rest.messages c.loop-rest.place _ _ _ v.0 read c.in_ok-push_message.ensures v.3,
     )
 
 pub returns-in-Err : goal.returns-in-Err
 returns-in-Err c =
     let v = c.loop-rest.invariant in
     let whole = ap (λ ls. vec_items c.args.text.now ++ flat_map line ls) (lines_none (read_all c.args.start c.args.bytes.now)) in
-    IfOk-weaker c.push-count.result _ _
-    (λ _ e. e ∙ printed_stop (vec_items c.loop-rest.text) _ _ c.loop-rest.messages c.loop-rest.place _ c.in-Err.refusal (search rules) c.in-Err.ensures.reads c.in-ok-push-stop.ensures v.3 ∙ whole)
-    c.push-count.ensures
+    IfOk-weaker c.push_count.result _ _
+    (λ _ e. e ∙ printed_stop (vec_items c.loop-rest.text) _ _ c.loop-rest.messages c.loop-rest.place _ c.in-Err.refusal (search rules) c.in-Err.ensures.reads c.in_ok-push_stop.ensures v.3 ∙ whole)
+    c.push_count.ensures
 
 pub returns : goal.returns
 returns c =
     let v = c.loop-rest.invariant in
     let whole = ap (λ ls. vec_items c.args.text.now ++ flat_map line ls) (lines_none (read_all c.args.start c.args.bytes.now)) in
-    IfOk-weaker c.push-count-2.result _ _
+    IfOk-weaker c.push_count-2.result _ _
     (λ _ e. e ∙ printed-all (vec_items c.loop-rest.text) _ c.loop-rest.messages c.loop-rest.place _ (search rules) v.3 ∙ whole)
-    c.push-count-2.ensures
+    c.push_count-2.ensures

@@ -9,8 +9,8 @@ pub returns : goal.returns
 returns c =
     let was = vec_items c.args.text.now in
     let e = c.args.refusal in
-    IfOk-weaker c.push-count.result _ _
+    IfOk-weaker c.push_count.result _ _
     (λ _ count.
-    count ∙ ap (λ bs. bs ++ line (count_words 0 0)) c.in-ok-push-stop.ensures
+    count ∙ ap (λ bs. bs ++ line (count_words 0 0)) c.in_ok-push_stop.ensures
     ∙ append_assoc was (line (stop_words e 0)) (line (count_words 0 0)) ∙ ap (λ bs. was ++ bs) (sym (lines_refused 0 0 e)))
-    c.push-count.ensures
+    c.push_count.ensures

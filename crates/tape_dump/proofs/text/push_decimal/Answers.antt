@@ -9,6 +9,6 @@ pub returns : goal.returns
 returns c =
     let n = c.args.n in
     let was = vec_items c.args.text.now in
-    let r = c.extend-from-slice.result in
+    let r = c.extend_from_slice.result in
     let digits = digits_part n c.in-Some.end _ (omega arith) c.in-Some.ensures.ends c.in-Some.ensures.writes in
-    made_by r _ was (was ++ decimal n) (c.extend-from-slice.ensures.items ∙ ap (λ ds. cond (is_ok r) (was ++ ds) was) digits)
+    made_by r _ was (was ++ decimal n) (c.extend_from_slice.ensures.items ∙ ap (λ ds. cond (is_ok r) (was ++ ds) was) digits)

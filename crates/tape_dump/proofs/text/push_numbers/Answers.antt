@@ -8,7 +8,7 @@ pub loop-n-preserved : goal.loop-n-preserved
 loop-n-preserved c =
     let n = c.from.result in
     spaced_more (vec_items c.args.text.now) _ c.args.numbers.now c.loop-n.n-index n (omega arith) (sym c.from.ensures)
-    (c.in-ok-push-number.ensures ∙ ap (λ bs. bs ++ (32 ∷ decimal n)) c.loop-n.invariant)
+    (c.in_ok-push_number.ensures ∙ ap (λ bs. bs ++ (32 ∷ decimal n)) c.loop-n.invariant)
 
 pub returns : goal.returns
 returns c =

@@ -24,7 +24,7 @@ returns-in-End g c =
 pub returns-in-Change : goal.returns-in-Change
 returns-in-Change g c =
     let x = c.change-result in
-    let y = c.as-reply in
+    let y = c.as_reply in
     record {
       refused = reply_refused _ _ x.result y.result y.ensures (λ e h. (ap (λ p. Halted p) h.0, h.1, h.2, refl, refl)) x.ensures.refused;
       keeps = x.ensures.keeps;
@@ -36,7 +36,7 @@ returns-in-Change g c =
 pub returns-in-Cancel : goal.returns-in-Cancel
 returns-in-Cancel g c =
     let x = c.cancel-result in
-    let y = c.as-reply-in-Cancel in
+    let y = c.as_reply-in-Cancel in
     record {
       refused = reply_refused _ _ x.result y.result y.ensures (λ e h. (refl, h.0, h.1, refl, refl)) x.ensures.refused;
       keeps = x.ensures.keeps;

@@ -10,7 +10,7 @@ returns g c =
     let s = c.args.self in
     let buys = g.B.Queue.held c.args.buys.now in
     let sells = g.S.Queue.held c.args.sells.now in
-    let end = c.end-day-answer in
+    let end = c.end_day-answer in
     let w =
     settled_all (g.B.Queue.lawful c.args.buys.now) (g.S.Queue.lawful c.args.sells.now) (trading_book s buys sells) (closed_book (record { terms = s.terms; next = s.next; quote = Some s.quote }) (g.B.Queue.held end.new.buys) (g.S.Queue.held end.new.sells))
     (λ l k r.

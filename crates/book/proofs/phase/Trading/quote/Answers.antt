@@ -9,11 +9,11 @@ use Rattle.book.specs.Matching.{plain_buys, plain_sells}
 use Rattle.book.proofs.Sides.{sound_buys, sound_sells}
 use Rattle.book.proofs.phase.Trading.quote.Goals as goal
 
-pub returns-in-err-check-quote : goal.returns-in-err-check-quote
-returns-in-err-check-quote g c =
-    let p = err_from_is_err_and c.from-residual.result c.from-residual.ensures.1 in
+pub returns-in_err-check_quote : goal.returns-in_err-check_quote
+returns-in_err-check_quote g c =
+    let p = err_from_is_err_and c.from_residual.result c.from_residual.ensures.1 in
     let b = trading_book c.args.self.now (g.B.Queue.held c.args.buys.now) (g.S.Queue.held c.args.sells.now) (g.R.PriceRange.answers c.args.range.now) in
-    let w = settled (g.B.Queue.lawful c.args.buys.now) (g.S.Queue.lawful c.args.sells.now) (λ l k. ruled_refused (quote c.args.entry (length c.args.trades.now)) b _ c.args.trades.now (refused_by _ _ (c.in-err-check-quote.ensures.answers l k))) in
+    let w = settled (g.B.Queue.lawful c.args.buys.now) (g.S.Queue.lawful c.args.sells.now) (λ l k. ruled_refused (quote c.args.entry (length c.args.trades.now)) b _ c.args.trades.now (refused_by _ _ (c.in_err-check_quote.ensures.answers l k))) in
     rw (p.1, p.2) (record { refused = (refl, refl, refl, refl, refl); keeps = ((λ l. l), λ l. l); by-rule = w.0; day = w.1 })
 
 pub returns : goal.returns
@@ -22,12 +22,12 @@ returns g c =
     let buys = g.B.Queue.held c.args.buys.now in
     let sells = g.S.Queue.held c.args.sells.now in
     let b = trading_book c.args.self.now buys sells (g.R.PriceRange.answers c.args.range.now) in
-    let placed = c.place-quote-answer in
+    let placed = c.place_quote-answer in
     let w =
     settled (g.B.Queue.lawful c.args.buys.now) (g.S.Queue.lawful c.args.sells.now)
     (λ l k.
-    let passes = passed_by _ _ (c.in-ok-check-quote.ensures.answers l k) in
-    let sound = c.in-ok-check-quote.ensures.sound in
+    let passes = passed_by _ _ (c.in_ok-check_quote.ensures.answers l k) in
+    let sound = c.in_ok-check_quote.ensures.sound in
     let ready = quote_ready c.args.entry table b passes (record { buys = sound_buys buys (sound.0 l); sells = sound_sells sells (sound.1 k) }) in
     quote_ruled c.args.entry (length table) b placed.result table placed.new.trades (plain_buys (g.B.Queue.held placed.new.buys)) (plain_sells (g.S.Queue.held placed.new.sells)) (g.R.PriceRange.answers placed.new.range) passes (placed.ensures.places l k trading b.terms ready) placed.ensures.told) in
     record { refused = tt; keeps = placed.ensures.keeps; by-rule = w.0; day = w.1 }

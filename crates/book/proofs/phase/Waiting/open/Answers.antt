@@ -8,10 +8,10 @@ pub returns : goal.returns
 returns g c =
     let buys = plain_buys (g.B.Queue.held c.args.buys.now) in
     let sells = plain_sells (g.S.Queue.held c.args.sells.now) in
-    let none : opening_refusal c.args.terms buys sells ≡ None = rw (sym c.if-not-is-allowed.ensures, sym c.if-not-is-fit.ensures.fits, sym c.if-not-is-fit-2.ensures.fits) refl in
+    let none : opening_refusal c.args.terms buys sells ≡ None = rw (sym c.if-not-is_allowed.ensures, sym c.if-not-is_fit.ensures.fits, sym c.if-not-is_fit-2.ensures.fits) refl in
     record {
       refused = tt;
       opens = (none, refl);
-      lawful = (c.is-fit.ensures.lawful c.if-not-is-fit.false, c.is-fit-else-not-is-fit.ensures.lawful c.if-not-is-fit-2.false);
+      lawful = (c.is_fit.ensures.lawful c.if-not-is_fit.false, c.is_fit-else-not-is_fit.ensures.lawful c.if-not-is_fit-2.false);
       day = λ range. opens_a_day c.args.terms buys sells range none;
     }

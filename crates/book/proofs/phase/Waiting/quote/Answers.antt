@@ -20,12 +20,12 @@ returns g c =
     let buys = g.B.Queue.held c.args.buys.now in
     let sells = g.S.Queue.held c.args.sells.now in
     let b = waiting_book c.args.self buys sells (g.R.PriceRange.answers c.args.range.now) in
-    let placed = c.place-quote-answer in
+    let placed = c.place_quote-answer in
     let w =
     settled (g.B.Queue.lawful c.args.buys.now) (g.S.Queue.lawful c.args.sells.now)
     (λ l k.
-    let passes = passed_by _ _ (c.in-default.ensures.answers l k) in
-    let sound = c.in-default.ensures.sound in
+    let passes = passed_by _ _ (c.in_default.ensures.answers l k) in
+    let sound = c.in_default.ensures.sound in
     let ready = quote_ready c.args.entry table b passes (record { buys = sound_buys buys (sound.0 l); sells = sound_sells sells (sound.1 k) }) in
     quote_ruled c.args.entry (length table) b placed.result table placed.new.trades (plain_buys (g.B.Queue.held placed.new.buys)) (plain_sells (g.S.Queue.held placed.new.sells)) (g.R.PriceRange.answers placed.new.range) passes (placed.ensures.places l k waiting b.terms ready) placed.ensures.told) in
     record { refused = tt; keeps = placed.ensures.keeps; by-rule = w.0; day = w.1 }

@@ -1,8 +1,8 @@
 -- What a map that keeps number, key, lots and rank does to what a queue holds.
-use Rattle.std.proofs.Common.{◌≡◌, ℕ, suc, ◌-◌, ◌<◌, ◌≤◌, Bool, true, false, cond, not, ◌&&◌, ◌||◌, eqb, leb, List, [], ◌∷◌, map, length, Some, None, Option, sym, refl, ap, ◌∙◌, subst}
+use Rattle.std.proofs.Common.{◌≡◌, ℕ, suc, ◌-◌, ◌<◌, ◌≤◌, Bool, true, false, cond, eqb, List, [], ◌∷◌, map, length, Some, None, Option, sym, refl, ap, ◌∙◌, subst}
 use Rattle.std.specs.List.{AllByRecursion as All}
 use Rattle.terms.specs.declared.refusal.Refusal.{Refusal}
-use Rattle.queue.specs.Held.{Held, Sorted, Apart, Ordered, Sound, head, first, any, insert, remove, change, is, clash, excepted, takes, barred, cuttable, uncut, unless, cutting, numbered, after_put, after_cut, after_take}
+use Rattle.queue.specs.Held.{Held, Sorted, Apart, Sound, head, first, any, insert, remove, is, clash, excepted, takes, barred, uncut, unless, cutting, numbered, after_put, after_cut, after_take}
 use Rattle.queue.specs.Carries.{Carries, map_some, map_held}
 use Rattle.queue.specs.Rank.{Rank}
 

@@ -1,4 +1,6 @@
 // Ranked elements and ranked queues: the interfaces, and what they mean.
+#![tactic(auto)]
+
 ghost use Rattle.std.specs.Prelude.{◌≡◌, ℕ, true, false, length, IfNone, OnErr, ◌≢◌};
 ghost use Rattle.queue.specs.Rank.{Rank, ExactlyOne, OnlyLots};
 ghost use Rattle.queue.specs.Held.{Held, Sound, head, first, any, takes, numbered, barred, uncut, answer, after_put, after_cut, after_take};

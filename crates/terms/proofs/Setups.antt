@@ -1,5 +1,5 @@
 -- A set-up and its nine numbers determine each other, inside the limits.
-use Rattle.std.proofs.Common.{◌≡◌, ℕ, zero, suc, ◌≤◌, Bool, true, false, cond, ◌&&◌, leb, List, [], ◌∷◌, length, get_or, Some, None, Ok, Err, Option, Result, sym, refl, ap, ◌∙◌, subst, ⊎_elim, arith}
+use Rattle.std.proofs.Common.{◌≡◌, ℕ, zero, suc, true, ◌&&◌, leb, List, [], ◌∷◌, length, get_or, Some, None, Ok, Err, Option, Result, sym, refl, ap, ◌∙◌, ⊎_elim, arith}
 use Rattle.std.proofs.lemmas.Bool.{cases_Bool, cond-true, cond-false, and_parts, and_from, leb-true, le-leb}
 use Rattle.terms.specs.Setups.{SpanIn, Allowed, within, span_allowed, instrument_allowed, instrument_from, day_from, setup_with, setup_from, setup_numbers}
 use Rattle.terms.specs.Values.{make_number, make_of, market_number, market_of}

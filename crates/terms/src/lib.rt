@@ -1,4 +1,6 @@
 // The words that every part shares: refusals, letters, limits, the set-up of a book and the messages of a tape.
+#![tactic(auto)]
+
 pub mod letter;
 pub mod limits;
 pub mod message;

@@ -1,4 +1,6 @@
 // Buying and selling orders as elements of a queue: price priority, then time priority.
+#![tactic(auto)]
+
 ghost use Rattle.std.specs.Prelude.{◌≡◌};
 ghost use Rattle.orders.specs.Priority.{buy_before, sell_before, with_lots};
 ghost use Rattle.orders.specs.declared.order.Order.{Order as AnyOrder};

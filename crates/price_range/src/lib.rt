@@ -1,4 +1,6 @@
 // Price ranges: the interface, and the three that are delivered.
+#![tactic(auto)]
+
 ghost use Rattle.std.specs.Prelude.{◌≡◌, ◌<◌, List, [], ◌∷◌, ◌++◌, Option};
 ghost use Rattle.price_range.specs.declared.band.Band.{Band as AnyBand};
 ghost use Rattle.price_range.specs.Bands.{Update, Proper};

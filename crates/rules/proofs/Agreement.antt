@@ -1,28 +1,27 @@
 -- Ledger and book agree after every call.
-use Rattle.std.proofs.Common.{◌≡◌, ℕ, ◌+◌, ◌-◌, ◌<◌, ◌≤◌, Bool, true, false, cond, not, ◌&&◌, ◌||◌, eqb, ltb, leb, ◌⊎◌, List, [], ◌∷◌, Some, None, Option, sym, refl, ap, ◌∙◌, subst, inl, inr, arith}
-use Rattle.std.proofs.lemmas.Bool.{or_parts, true≢false}
+use Rattle.std.proofs.Common.{◌≡◌, ℕ, ◌+◌, ◌-◌, ◌<◌, Bool, true, false, cond, eqb, ◌⊎◌, List, [], ◌∷◌, Some, None, Option, sym, refl, ap, ◌∙◌, subst, inl, inr, arith}
+use Rattle.std.proofs.lemmas.Bool.{true≢false}
 use Rattle.std.proofs.lemmas.Bool.Decides.{nat_tests}
 use Rattle.std.specs.List.{AllByRecursion as All}
 use Rattle.terms.specs.declared.message.OrderCancel.{OrderCancel}
 use Rattle.terms.specs.declared.message.OrderChange.{OrderChange}
 use Rattle.terms.specs.declared.message.OrderEntry.{OrderEntry}
 use Rattle.terms.specs.declared.message.QuoteEntry.{QuoteEntry}
-use Rattle.terms.specs.declared.message.Quoted.{Quoted}
 use Rattle.terms.specs.declared.side.Side.{Side}
 use Rattle.terms.specs.declared.side.Side.TheVariants.{Buy, Sell}
 use Rattle.terms.specs.declared.side.TimeInForce.{TimeInForce}
 use Rattle.terms.specs.declared.side.TimeInForce.TheVariants.{Day, Immediate}
 use Rattle.terms.specs.declared.trade.Answer.{Answer}
 use Rattle.terms.specs.declared.trade.Trade.{Trade}
-use Rattle.queue.specs.Held.{first, insert, numbered, remove}
+use Rattle.queue.specs.Held.{first, numbered, remove}
 use Rattle.queue.proofs.Inserts.{all_map}
 use Rattle.queue.proofs.Removes.{all_remove}
-use Rattle.orders.specs.Priority.{before, rank_of, with_lots}
+use Rattle.orders.specs.Priority.{rank_of}
 use Rattle.orders.specs.declared.order.Found.{Found}
 use Rattle.orders.specs.declared.order.Order.{Order}
 use Rattle.price_range.specs.declared.band.Band.{Band}
-use Rattle.rules.specs.Book.{Book, Phase, waiting, trading, halted, closed, other, on, pick, band}
-use Rattle.rules.specs.Calls.{Call, order, quote, renew, change, cancel, halt, resume, end, resting, answered}
+use Rattle.rules.specs.Book.{Book, Phase, other, on, pick, band}
+use Rattle.rules.specs.Calls.{Call, order, quote, change, cancel, end, answered}
 use Rattle.rules.specs.Checks as checks
 use Rattle.rules.specs.Checks.{found, found_in, improves, is_trading, without, bid_of, ask_of}
 use Rattle.rules.specs.Laws.{FairTrades, Better}
@@ -30,10 +29,10 @@ use Rattle.rules.specs.Ledger as ledger
 use Rattle.rules.specs.Ledger.{Entries, Ledger, left, enter, enter_legs, drop_orders, drop_legs, resize, replace, deals, opens, posts}
 use Rattle.rules.specs.Meeting as meeting
 use Rattle.rules.specs.Meeting.{Entered, Swept, can_meet, sweep, meet, incoming, joined, remains, Met}
-use Rattle.rules.specs.Rules.{Ruled, laid, entering, order_entered, ordered, bid_leg, ask_leg, update_of, quoted_buys, quoted_sells, quote_swept, quoted, renewed, number_is, lowered, cut_in_place, changing, change_entered, reentered, changed, cancelled, step_to, ended, accepted, unchanged}
+use Rattle.rules.specs.Rules.{Ruled, entering, order_entered, ordered, bid_leg, ask_leg, update_of, quoted_buys, quoted_sells, quote_swept, quoted, number_is, lowered, cut_in_place, changing, change_entered, reentered, changed, cancelled, step_to, ended}
 use Rattle.rules.proofs.Coupling.{Same, Known, Coupled, deals_same, turned, absent_opposite, coupled_joined, coupled_dropped}
 use Rattle.rules.proofs.Entering.{Apart, apart_turned, apart_removed, apart_joined, apart_lowered, EnteredWell, entered_well, SweptWell, swept_well}
-use Rattle.rules.proofs.Entries.{at_here, at_other, all_both, Absent, absent_removed}
+use Rattle.rules.proofs.Entries.{at_here, at_other, Absent, absent_removed}
 use Rattle.rules.proofs.Postings.{enter_here, coupled_entered, next_absent, next_unused, found-is, left-found, coupled_resized, replace_here, coupled_replaced, coupled_ended, Legs, legs_by, coupled_unquoted}
 use Rattle.rules.proofs.Priorities.{apart_lower}
 

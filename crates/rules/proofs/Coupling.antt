@@ -1,12 +1,12 @@
 -- The ledger and the two sides of a book agree, also with some lots of one number in hand, and each step of a call keeps that.
-use Rattle.std.proofs.Common.{◌≡◌, ℕ, ◌+◌, ◌-◌, ◌<◌, ◌≤◌, Bool, true, false, cond, eqb, ltb, ◌⊎◌, List, [], ◌∷◌, ◌++◌, Option, sym, refl, ap, ◌∙◌, subst, inl, inr, arith}
-use Rattle.std.proofs.lemmas.Bool.{cases_eq, cond_both, eqb-true, eqb-false, ne_eqb, or_from}
+use Rattle.std.proofs.Common.{◌≡◌, ℕ, ◌+◌, ◌-◌, ◌<◌, ◌≤◌, Bool, true, false, cond, eqb, ltb, ◌⊎◌, List, [], ◌∷◌, Option, sym, refl, ap, ◌∙◌, subst, inl, inr, arith}
+use Rattle.std.proofs.lemmas.Bool.{cases_eq, eqb-true, ne_eqb, or_from}
 use Rattle.std.proofs.lemmas.Bool.Decides.{nat_tests}
 use Rattle.std.specs.List.{AllByRecursion as All}
 use Rattle.terms.specs.declared.side.Side.{Side}
 use Rattle.terms.specs.declared.side.Side.TheVariants.{Buy, Sell}
 use Rattle.terms.specs.declared.trade.Trade.{Trade}
-use Rattle.queue.specs.Held.{Ordered, any, is, clash, insert, remove, change}
+use Rattle.queue.specs.Held.{Ordered, any, clash, insert, remove, change}
 use Rattle.queue.specs.Rank.{OnlyLots}
 use Rattle.queue.proofs.Cuts.{ordered-change}
 use Rattle.queue.proofs.Inserts.{all_map, all_insert}
@@ -17,10 +17,10 @@ use Rattle.orders.specs.declared.order.Order.{Order}
 use Rattle.price_range.specs.declared.band.Band.{Band}
 use Rattle.rules.specs.Book.{other}
 use Rattle.rules.specs.Laws.{under}
-use Rattle.rules.specs.Ledger.{Entry, Entries, at, left, enter, drop, drop_orders, trade_of, deal, deals, resize, replace}
+use Rattle.rules.specs.Ledger.{Entry, Entries, at, left, drop_orders, deal, deals}
 use Rattle.rules.specs.Meeting.{Incoming, can_meet, trade, trade_at, Step, stop, part, whole, step, stepped, Met, meet, joined, nearest, resting_limit}
 use Rattle.rules.specs.Rules.{number_is}
-use Rattle.rules.proofs.Entries.{at_here, at_other, at_zero, at_sum, at_cut, all_both, Absent, under_absent, under-insert, under_others, absent_removed, under-changed, absent_changed}
+use Rattle.rules.proofs.Entries.{at_here, at_other, at_zero, at_cut, all_both, Absent, under_absent, under-insert, under_others, absent_removed}
 use Rattle.rules.proofs.Priorities.{before_transitive, before_connected, apart_later, two_sides}
 
 -- what stays the same while lots trade

@@ -1,6 +1,6 @@
 -- An order that is entered or changed, and the sweep after a quote: both leave ledger and book in agreement, and nothing that can meet.
-use Rattle.std.proofs.Common.{◌≡◌, ℕ, ◌+◌, ◌-◌, ◌<◌, ◌≤◌, Bool, true, false, cond, eqb, List, [], ◌∷◌, ◌++◌, Some, None, Option, sym, refl, ap, ◌∙◌, subst, arith}
-use Rattle.std.proofs.lemmas.Bool.{eqb-true, eqb-false}
+use Rattle.std.proofs.Common.{◌≡◌, ℕ, ◌<◌, Bool, true, false, cond, eqb, List, [], ◌∷◌, Option, sym, refl, subst, arith}
+use Rattle.std.proofs.lemmas.Bool.{eqb-true}
 use Rattle.std.proofs.lemmas.Bool.Decides.{nat_tests}
 use Rattle.std.specs.List.{AllByRecursion as All}
 use Rattle.terms.specs.declared.side.Side.{Side}
@@ -12,14 +12,14 @@ use Rattle.orders.specs.Priority.{before, rank_of, with_lots}
 use Rattle.orders.specs.declared.order.Order.{Order}
 use Rattle.price_range.specs.declared.band.Band.{Band}
 use Rattle.rules.specs.Book.{other}
-use Rattle.rules.specs.Laws.{under, FairTrades}
-use Rattle.rules.specs.Ledger.{Entries, at, drop_orders, deals}
+use Rattle.rules.specs.Laws.{FairTrades}
+use Rattle.rules.specs.Ledger.{Entries, drop_orders, deals}
 use Rattle.rules.specs.Meeting.{Incoming, can_meet, incoming, lifted, Met, meet, joined, enter, Entered, remains, sweep, swept, Swept, first_meets}
 use Rattle.rules.specs.Rules.{number_is}
-use Rattle.rules.proofs.Coupling.{Same, Known, Coupled, same_by, known_by, deals_same, ordered_tail, meeting, spent, all_met, idle, coupled_joined, coupled_lapsed}
+use Rattle.rules.proofs.Coupling.{Known, Coupled, known_by, deals_same, ordered_tail, meeting, spent, all_met, idle, coupled_joined, coupled_lapsed}
 use Rattle.rules.proofs.Entries.{at_zero, all_both, all_changed, Absent}
 use Rattle.rules.proofs.Fairness.{Leads, fair_meeting, deals_append, fair_append}
-use Rattle.rules.proofs.Priorities.{Ahead, not_ahead, apart_worse, not_behind}
+use Rattle.rules.proofs.Priorities.{not_ahead, apart_worse, not_behind}
 
 -- no two of the sides can meet
 abbrev pub Apart : Option Band → Side → List Order → List Order → Type 0

@@ -1,10 +1,8 @@
 -- Entries by number, and the lots that rest under a number.
-use Rattle.std.proofs.Common.{◌≡◌, ℕ, ◌+◌, ◌-◌, ◌<◌, ◌≤◌, Bool, true, false, cond, eqb, List, [], ◌∷◌, sym, refl, ap, ◌∙◌, arith}
+use Rattle.std.proofs.Common.{◌≡◌, ℕ, ◌+◌, ◌-◌, ◌≤◌, Bool, true, false, cond, eqb, List, [], ◌∷◌, sym, refl, ap, ◌∙◌, arith}
 use Rattle.std.proofs.lemmas.Bool.{cond_both, eqb-true, eqb-false, or_parts}
-use Rattle.std.proofs.lemmas.Bool.Decides.{nat_tests}
 use Rattle.std.specs.List.{AllByRecursion as All}
-use Rattle.queue.specs.Held.{any, is, Apart, insert, remove, change}
-use Rattle.queue.proofs.Inserts.{all_map}
+use Rattle.queue.specs.Held.{any, Apart, insert, remove, change}
 use Rattle.orders.specs.Priority.{with_lots}
 use Rattle.orders.specs.declared.order.Order.{Order}
 use Rattle.rules.specs.Ledger.{at}

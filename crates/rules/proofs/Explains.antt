@@ -1,28 +1,24 @@
 -- What each call's outcome says holds.
-use Rattle.std.proofs.Common.{◌≡◌, ℕ, ◌+◌, ◌-◌, ◌<◌, ◌≤◌, Bool, true, false, cond, List, [], ◌∷◌, Some, None, Option, sym, refl, ap, ◌∙◌, subst, arith}
-use Rattle.std.proofs.lemmas.Bool.{true≢false}
-use Rattle.std.specs.List.{AllByRecursion as All}
+use Rattle.std.proofs.Common.{◌≡◌, ℕ, ◌+◌, ◌-◌, ◌<◌, ◌≤◌, Bool, true, false, cond, List, [], Some, None, Option, sym, refl, ap, ◌∙◌, subst, arith}
 use Rattle.terms.specs.declared.message.OrderCancel.{OrderCancel}
 use Rattle.terms.specs.declared.message.OrderChange.{OrderChange}
 use Rattle.terms.specs.declared.message.OrderEntry.{OrderEntry}
 use Rattle.terms.specs.declared.message.QuoteEntry.{QuoteEntry}
 use Rattle.terms.specs.declared.message.Quoted.{Quoted}
-use Rattle.terms.specs.declared.refusal.Refusal.{Refusal}
 use Rattle.terms.specs.declared.side.Side.{Side}
 use Rattle.terms.specs.declared.side.Side.TheVariants.{Buy, Sell}
 use Rattle.terms.specs.declared.side.TimeInForce.{TimeInForce}
-use Rattle.terms.specs.declared.trade.Trade.{Trade}
 use Rattle.queue.specs.Held.{first, remove}
 use Rattle.queue.proofs.Inserts.{all_map}
 use Rattle.orders.specs.declared.order.Found.{Found}
 use Rattle.orders.specs.declared.order.Order.{Order}
 use Rattle.price_range.specs.declared.band.Band.{Band}
-use Rattle.rules.specs.Accounts.{Accounted, cancelled_below, under_legs}
-use Rattle.rules.specs.Book.{Book, Phase, waiting, trading, halted, closed, other, on, pick, band, resting_lots}
-use Rattle.rules.specs.Calls.{Call, order, quote, renew, change, cancel, halt, resume, end, resting}
+use Rattle.rules.specs.Accounts.{cancelled_below, under_legs}
+use Rattle.rules.specs.Book.{Book, Phase, waiting, trading, halted, closed, other, on, band}
+use Rattle.rules.specs.Calls.{Call, order, quote, renew, change, cancel, end}
 use Rattle.rules.specs.Checks as checks
 use Rattle.rules.specs.Checks.{found, leg_lots, bid_of, ask_of}
-use Rattle.rules.specs.Fills.{Filled, Filling, range_in}
+use Rattle.rules.specs.Fills.{Filled, range_in}
 use Rattle.rules.specs.Keeps.{Explained}
 use Rattle.rules.specs.Laws.{under}
 use Rattle.rules.specs.Ledger as ledger
@@ -30,7 +26,7 @@ use Rattle.rules.specs.Ledger.{Entries, at, left, by_outcome, deals, drop_orders
 use Rattle.rules.specs.Meeting as meeting
 use Rattle.rules.specs.Meeting.{Entered, incoming, meet}
 use Rattle.rules.specs.Reasons.{InPlace}
-use Rattle.rules.specs.Rules.{Ruled, laid, entering, order_entered, ordered, quote_swept, quoted, renewed, number_is, lowered, cut_in_place, changing, change_entered, reentered, changed, cancelled, step_to, ended, meeting_band}
+use Rattle.rules.specs.Rules.{Ruled, laid, entering, order_entered, ordered, quote_swept, quoted, renewed, number_is, lowered, cut_in_place, changing, change_entered, reentered, changed, cancelled, ended, meeting_band}
 use Rattle.rules.proofs.Accounts.{below_same, below-sum, below-under, under_lots, left-under, dropped, deals-cancelled, under_sides, rests_entered}
 use Rattle.rules.proofs.Agreement.{Agrees, ledger_of, to_side, lapses_same, found-on, known_found, keeps_same, kept_quote}
 use Rattle.rules.proofs.Coupling.{Coupled, Same, absent_opposite, all_met, coupled_dropped, meeting as coupled-meeting, turned}

@@ -1,5 +1,5 @@
 -- Each trade of a meeting is fair.
-use Rattle.std.proofs.Common.{◌≡◌, ℕ, ◌+◌, ◌-◌, ◌<◌, ◌≤◌, min, max, Bool, true, false, cond, eqb, ltb, leb, ◌⊎◌, List, [], ◌∷◌, ◌++◌, Some, None, Option, sym, refl, ap, ◌∙◌, subst, inl, inr, arith}
+use Rattle.std.proofs.Common.{◌≡◌, ℕ, ◌-◌, ◌<◌, ◌≤◌, Bool, true, false, cond, ltb, ◌⊎◌, List, [], ◌∷◌, ◌++◌, Some, None, Option, sym, refl, ap, ◌∙◌, subst, inl, inr, arith}
 use Rattle.std.proofs.lemmas.Bool.{cases_eq, cases_lt, true≢false}
 use Rattle.std.proofs.lemmas.Bool.Decides.{nat_tests}
 use Rattle.std.specs.List.{AllByRecursion as All}
@@ -7,14 +7,13 @@ use Rattle.terms.specs.declared.side.Side.{Side}
 use Rattle.terms.specs.declared.side.Side.TheVariants.{Buy, Sell}
 use Rattle.terms.specs.declared.trade.Trade.{Trade}
 use Rattle.queue.proofs.Inserts.{all_map}
-use Rattle.orders.specs.Priority.{before}
 use Rattle.orders.specs.declared.order.Order.{Order}
 use Rattle.price_range.specs.declared.band.Band.{Band}
 use Rattle.rules.specs.Book.{other}
 use Rattle.rules.specs.Laws.{under, Inside, First, FairTrade, FairTrades, Precedes}
-use Rattle.rules.specs.Ledger.{Entry, Entries, at, left, deal, deals}
-use Rattle.rules.specs.Meeting.{Incoming, can_meet, trade, trade_at, Step, stop, part, whole, step, stepped, meet, nearest, resting_limit}
-use Rattle.rules.proofs.Coupling.{Same, Known, Coupled, same_by, deals_same, StepIs, is_done, is_apart, is_part, is_whole, step_is, coupled_whole}
+use Rattle.rules.specs.Ledger.{Entries, left, deal, deals}
+use Rattle.rules.specs.Meeting.{Incoming, can_meet, trade, trade_at, Step, stepped, meet, nearest, resting_limit}
+use Rattle.rules.proofs.Coupling.{Same, Known, Coupled, same_by, StepIs, is_done, is_apart, is_part, is_whole, step_is, coupled_whole}
 use Rattle.rules.proofs.Entries.{at_here, at_other, all_both}
 use Rattle.rules.proofs.Priorities.{Ahead, not_ahead, not_ahead_self, two_sides}
 

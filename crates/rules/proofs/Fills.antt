@@ -1,5 +1,5 @@
 -- An order that meets the other side fills its first orders.
-use Rattle.std.proofs.Common.{◌≡◌, ℕ, ◌+◌, ◌-◌, ◌<◌, ◌≤◌, min, max, Bool, true, false, cond, leb, ◌⊎◌, List, [], ◌∷◌, ◌++◌, map, length, take, Some, None, Option, sym, refl, ap, ◌∙◌, subst, inl, inr, arith}
+use Rattle.std.proofs.Common.{◌≡◌, ℕ, ◌-◌, min, max, Bool, true, false, cond, ◌⊎◌, List, [], ◌∷◌, ◌++◌, map, length, take, Some, None, Option, sym, refl, ap, inl, inr, arith}
 use Rattle.std.proofs.lemmas.Bool.{true≢false}
 use Rattle.std.proofs.lemmas.Bool.Decides.{nat_tests}
 use Rattle.std.specs.List.{AllByRecursion as All}
@@ -8,13 +8,12 @@ use Rattle.terms.specs.declared.side.Side.TheVariants.{Buy, Sell}
 use Rattle.terms.specs.declared.trade.Trade.{Trade}
 use Rattle.queue.specs.Held.{Ordered}
 use Rattle.queue.proofs.Inserts.{all_map}
-use Rattle.orders.specs.Priority.{rank_of, with_lots}
+use Rattle.orders.specs.Priority.{rank_of}
 use Rattle.orders.specs.declared.order.Order.{Order}
 use Rattle.price_range.specs.declared.band.Band.{Band}
 use Rattle.rules.specs.Book.{other, resting_lots, traded_lots}
-use Rattle.rules.specs.Fills.{Within, CanMeet, counterparty, Whole, Filled}
-use Rattle.rules.specs.Laws.{Inside}
-use Rattle.rules.specs.Meeting.{Incoming, Met, Step, can_meet, meet, step, stepped, trade}
+use Rattle.rules.specs.Fills.{CanMeet, counterparty, Whole, Filled}
+use Rattle.rules.specs.Meeting.{Incoming, Met, Step, can_meet, meet, stepped, trade}
 use Rattle.rules.proofs.Coupling.{StepIs, is_done, is_apart, is_part, is_whole, step_is, ordered_tail}
 use Rattle.rules.proofs.Priorities.{apart_later}
 

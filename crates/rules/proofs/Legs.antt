@@ -1,16 +1,16 @@
 -- Orders that are looked up by their number, in a queue of one side.
-use Rattle.std.proofs.Common.{◌≡◌, ℕ, suc, ◌+◌, ◌<◌, ◌≤◌, Bool, true, false, cond, ◌||◌, eqb, ltb, leb, List, [], ◌∷◌, map, length, is_some, Some, None, Option, sym, refl, ap, ◌∙◌, arith}
+use Rattle.std.proofs.Common.{◌≡◌, ℕ, suc, Bool, true, false, cond, ◌||◌, eqb, ltb, leb, List, [], ◌∷◌, map, length, is_some, Some, None, Option, sym, refl, ap, ◌∙◌, arith}
 use Rattle.std.proofs.lemmas.Bool.{true≢false}
 use Rattle.std.proofs.lemmas.Bool.Decides.{nat_tests}
 use Rattle.terms.specs.declared.side.Side.{Side}
 use Rattle.queue.proofs.Carried.{map_first, map-take}
 use Rattle.queue.specs.Carries.{Carries, map_some, map_held}
-use Rattle.queue.specs.Held.{Held, any, first, is, remove, numbered, after_take}
+use Rattle.queue.specs.Held.{Held, any, first, remove, numbered, after_take}
 use Rattle.queue.specs.Rank.{Rank}
 use Rattle.orders.specs.Priority.{rank_of}
 use Rattle.orders.specs.declared.order.Order.{Order}
 use Rattle.rules.specs.Book.{holding}
-use Rattle.rules.specs.Checks.{full, full_without, holds, is_none, lots_of, lots_under, leg_lots, without}
+use Rattle.rules.specs.Checks.{full_without, holds, lots_of, lots_under}
 use Rattle.rules.specs.Rules.{number_is}
 
 module _ {E : Type 0} (f : E → Order) (q : Rank E) (s : Side) (c : Carries f q (rank_of s)) (h : Held E) (n : ℕ) where

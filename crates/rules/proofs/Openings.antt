@@ -1,14 +1,14 @@
 -- An accepted opening begins a day.
-use Rattle.std.proofs.Common.{◌≡◌, ℕ, ◌≤◌, true, false, not, ◌&&◌, ◌||◌, eqb, leb, List, [], ◌∷◌, length, None, sym, subst, arith}
+use Rattle.std.proofs.Common.{◌≡◌, ◌≤◌, false, not, ◌||◌, [], ◌∷◌, length, None, sym, subst, arith}
 use Rattle.std.proofs.lemmas.List.{nil_from_length}
 use Rattle.std.proofs.lemmas.Bool.{or_parts, not-false}
 use Rattle.std.proofs.lemmas.Bool.Decides.{nat_tests}
-use Rattle.terms.specs.Setups.{instrument_allowed, within}
+use Rattle.terms.specs.Setups.{instrument_allowed}
 use Rattle.terms.specs.declared.refusal.Refusal.TheVariants.{OutsideLimits, UnfitQueue}
 use Rattle.terms.specs.declared.setup.Instrument.{Instrument}
 use Rattle.queue.specs.Held.{Held}
 use Rattle.orders.specs.declared.order.Order.{Order}
-use Rattle.rules.specs.Book.{Answers, Book, waiting}
+use Rattle.rules.specs.Book.{Answers, waiting}
 use Rattle.rules.specs.Laws.{Lawful}
 use Rattle.rules.specs.Opening.{opening_refusal, fit}
 use Rattle.rules.specs.Rules.{Day, opened}

@@ -1,5 +1,5 @@
 -- What the tests of an accepted call say of the queues and the table.
-use Rattle.std.proofs.Common.{◌≡◌, ℕ, ◌+◌, ◌<◌, ◌≤◌, Bool, true, false, cond, not, ◌&&◌, ◌||◌, eqb, ltb, leb, List, [], ◌∷◌, length, Some, None, Ok, Err, Option, sym, refl, ap, ◌∙◌, subst, arith}
+use Rattle.std.proofs.Common.{◌≡◌, ℕ, ◌+◌, ◌<◌, ◌≤◌, Bool, true, false, not, ◌&&◌, ◌||◌, ltb, List, ◌∷◌, length, Some, None, Ok, Err, Option, refl, ap, subst, arith}
 use Rattle.std.proofs.lemmas.Bool.{true≢false}
 use Rattle.std.proofs.lemmas.Bool.Decides.{nat_tests}
 use Rattle.terms.specs.declared.message.OrderEntry.{OrderEntry}
@@ -11,8 +11,7 @@ use Rattle.terms.specs.declared.side.Side.TheVariants.{Buy, Sell}
 use Rattle.terms.specs.declared.side.TimeInForce.{TimeInForce}
 use Rattle.terms.specs.declared.side.TimeInForce.TheVariants.{Day, Immediate}
 use Rattle.terms.specs.declared.trade.Trade.{Trade}
-use Rattle.queue.specs.Held.{Held, Sound, answer}
-use Rattle.orders.specs.Priority.{rank_of}
+use Rattle.queue.specs.Held.{answer}
 use Rattle.orders.specs.declared.order.Order.{Order}
 use Rattle.price_range.specs.declared.band.Band.{Band}
 use Rattle.rules.specs.Book.{Book, other, on}

@@ -1,21 +1,19 @@
 -- Orders that are put into a queue.
-use Rattle.std.proofs.Common.{◌≡◌, ℕ, ◌<◌, ◌≤◌, Bool, true, false, cond, ◌||◌, eqb, List, [], ◌∷◌, map, Some, None, Option, sym, refl, ap, ◌∙◌, subst, ⊎_elim, arith}
+use Rattle.std.proofs.Common.{◌≡◌, ℕ, ◌<◌, ◌≤◌, Bool, true, false, cond, ◌||◌, eqb, List, map, sym, refl, ap, ◌∙◌, ⊎_elim, arith}
 use Rattle.std.proofs.lemmas.Bool.{cases_lt, ne_eqb, true≢false}
 use Rattle.std.proofs.lemmas.Bool.Decides.{nat_tests}
-use Rattle.terms.specs.declared.refusal.Refusal.{Refusal}
 use Rattle.terms.specs.declared.side.Side.{Side}
 use Rattle.terms.specs.declared.trade.Trade.{Trade}
 use Rattle.queue.proofs.Carried.{map-put}
 use Rattle.queue.proofs.Puts.{unbarred, barred_held}
 use Rattle.queue.specs.Carries.{Carries, map_held}
-use Rattle.queue.specs.Held.{Held, barred, insert, after_put, unless}
+use Rattle.queue.specs.Held.{Held, insert, after_put, unless}
 use Rattle.queue.specs.Rank.{Rank}
 use Rattle.orders.specs.Priority.{before, rank_of, with_lots}
 use Rattle.orders.specs.declared.order.Order.{Order}
-use Rattle.price_range.specs.declared.band.Band.{Band}
 use Rattle.rules.specs.Book.{holding}
 use Rattle.rules.specs.Meeting.{joined}
-use Rattle.rules.specs.Tables.{Room, Meeting, Entering, entering_of}
+use Rattle.rules.specs.Tables.{Room, Meeting, entering_of}
 
 or_yes : (a b : Bool) → a ≡ true → (a || b) ≡ true
 or_yes true b e = refl

@@ -1,22 +1,20 @@
 -- What a call brings about before its trades keeps the ledger and the book in agreement.
 use Rattle.std.proofs.Common.{◌≡◌, ℕ, ◌+◌, ◌-◌, ◌<◌, ◌≤◌, Bool, true, false, cond, eqb, ◌⊎◌, List, [], ◌∷◌, Some, None, Option, sym, refl, ap, ◌∙◌, subst, inl, inr, arith}
-use Rattle.std.proofs.lemmas.Bool.{cases_eq, cond_both, eqb-true, eqb-false, true≢false}
-use Rattle.std.proofs.lemmas.Bool.Decides.{nat_tests}
+use Rattle.std.proofs.lemmas.Bool.{cases_eq, eqb-true, eqb-false}
 use Rattle.std.specs.List.{AllByRecursion as All}
 use Rattle.terms.specs.declared.message.Quoted.{Quoted}
 use Rattle.terms.specs.declared.side.Side.{Side}
 use Rattle.terms.specs.declared.side.Side.TheVariants.{Buy, Sell}
-use Rattle.queue.specs.Held.{Apart, Ordered, any, first, is, remove, change}
+use Rattle.queue.specs.Held.{Apart, any, first, remove, change}
 use Rattle.queue.proofs.Inserts.{all_map}
 use Rattle.queue.proofs.Removes.{all_remove, ordered-remove}
 use Rattle.orders.specs.Priority.{rank_of, with_lots}
 use Rattle.orders.specs.declared.order.Order.{Order}
-use Rattle.rules.specs.Book.{other}
 use Rattle.rules.specs.Checks.{bid_of, ask_of, without}
 use Rattle.rules.specs.Laws.{under}
-use Rattle.rules.specs.Ledger.{Entry, Entries, at, left, enter, drop, drop_orders, drop_legs, resize, replace}
+use Rattle.rules.specs.Ledger.{Entries, at, left, enter, drop, drop_legs, resize, replace}
 use Rattle.rules.specs.Rules.{number_is}
-use Rattle.rules.proofs.Coupling.{Same, Known, Coupled, SameEntry, known_by, ordered-changed, idle, turned, absent_opposite, coupled_dropped}
+use Rattle.rules.proofs.Coupling.{Same, Known, Coupled, SameEntry, known_by, ordered-changed, turned, absent_opposite, coupled_dropped}
 use Rattle.rules.proofs.Entries.{at_here, at_other, at_zero, all_both, Absent, absent_any, under_absent, under_others, absent_removed, under-changed, all_changed}
 
 -- a new number comes in hand

@@ -1,7 +1,7 @@
 -- A quote that is placed, by the rules.
-use Rattle.std.proofs.Common.{◌≡◌, ℕ, suc, ◌+◌, ◌-◌, ◌<◌, ◌≤◌, Bool, true, false, cond, not, ◌&&◌, ◌||◌, eqb, ltb, leb, List, [], ◌∷◌, ◌++◌, length, take, drop, Some, None, Option, sym, refl, ap, ◌∙◌, subst, arith}
+use Rattle.std.proofs.Common.{◌≡◌, ℕ, suc, ◌+◌, ◌<◌, ◌≤◌, false, not, ◌&&◌, ◌||◌, eqb, List, [], ◌∷◌, ◌++◌, length, take, drop, Some, None, Option, sym, refl, ap, ◌∙◌, subst, arith}
 use Rattle.std.proofs.lemmas.List.{take_at}
-use Rattle.std.proofs.lemmas.Bool.{cond_both, or_parts, or_from, eqb-true, eqb-false, ne_eqb}
+use Rattle.std.proofs.lemmas.Bool.{cond_both, or_parts, or_from, eqb-true, ne_eqb}
 use Rattle.std.proofs.lemmas.Bool.Decides.{nat_tests}
 use Rattle.std.specs.List.{AllByRecursion as All}
 use Rattle.terms.specs.declared.message.QuoteEntry.{QuoteEntry}
@@ -11,17 +11,17 @@ use Rattle.terms.specs.declared.trade.Trade.{Trade}
 use Rattle.queue.proofs.Inserts.{all_insert}
 use Rattle.queue.proofs.Removes.{all_remove}
 use Rattle.queue.proofs.Rounds.{length-insert}
-use Rattle.queue.specs.Held.{Held, Sound, Apart, any, clash, excepted, takes, insert, remove}
+use Rattle.queue.specs.Held.{Held, Apart, any, clash, takes, insert, remove}
 use Rattle.orders.specs.Priority.{before, rank_of}
 use Rattle.orders.specs.declared.order.Order.{Order}
 use Rattle.price_range.specs.declared.band.Band.{Band}
 use Rattle.rules.specs.Book.{Book, holding, traded_lots}
-use Rattle.rules.specs.ByRule.{SoundBook, QuoteReady, QuotePlaced}
+use Rattle.rules.specs.ByRule.{QuoteReady, QuotePlaced}
 use Rattle.rules.specs.Calls.{answered}
-use Rattle.rules.specs.Checks.{full, full_without, bid_of, ask_of, without, leg_lots, lots_under, leg_checks}
-use Rattle.rules.specs.Meeting.{Swept, joined, sweep}
+use Rattle.rules.specs.Checks.{full_without, bid_of, ask_of, without, leg_lots, lots_under, leg_checks}
+use Rattle.rules.specs.Meeting.{joined}
 use Rattle.rules.specs.Rules.{number_is, bid_leg, ask_leg, update_of, quoted_buys, quoted_sells, quote_swept}
-use Rattle.rules.specs.Tables.{written, FitsBoth, Room, Sweeping, sweep_at}
+use Rattle.rules.specs.Tables.{FitsBoth, Room, sweep_at}
 use Rattle.rules.proofs.Entries.{Absent, absent_any}
 use Rattle.rules.proofs.Passing.{not_full}
 use Rattle.rules.proofs.Theorem.{passed}

@@ -1,10 +1,8 @@
 -- The tests of the rules decide the reasons, and so the first test that holds is the reason with the lowest number.
-use Rattle.std.proofs.Common.{◌≡◌, ℕ, ◌+◌, ◌-◌, ◌%◌, ◌<◌, ◌≤◌, Bool, true, false, cond, not, ◌&&◌, ◌||◌, eqb, ltb, leb, ◌⊎◌, List, [], ◌∷◌, length, Some, None, Option, sym, refl, ap, ◌∙◌, subst, inl, inr, arith}
+use Rattle.std.proofs.Common.{◌≡◌, ℕ, ◌+◌, ◌-◌, ◌%◌, ◌<◌, ◌≤◌, Bool, true, false, cond, not, ◌&&◌, ◌||◌, eqb, ltb, leb, ◌⊎◌, List, [], ◌∷◌, Some, None, Option, sym, refl, ap, ◌∙◌, subst, inl, inr, arith}
 use Rattle.std.proofs.lemmas.Bool.{true≢false, not-true, not-false, ltb-true, ltb-false, leb-true, leb-false, eqb-true, eqb-false, and_parts, and_cases, or_cases, or_parts}
 use Rattle.terms.specs.Values.{refusal_number}
-use Rattle.terms.specs.declared.message.OrderCancel.{OrderCancel}
 use Rattle.terms.specs.declared.message.OrderChange.{OrderChange}
-use Rattle.terms.specs.declared.message.OrderEntry.{OrderEntry}
 use Rattle.terms.specs.declared.message.QuoteEntry.{QuoteEntry}
 use Rattle.terms.specs.declared.message.Quoted.{Quoted}
 use Rattle.terms.specs.declared.refusal.Refusal.{Refusal}
@@ -14,17 +12,17 @@ use Rattle.terms.specs.declared.side.Side.{Side}
 use Rattle.terms.specs.declared.side.Side.TheVariants.{Buy, Sell}
 use Rattle.terms.specs.declared.side.TimeInForce.{TimeInForce}
 use Rattle.terms.specs.declared.side.TimeInForce.TheVariants.{Day, Immediate}
-use Rattle.queue.specs.Held.{any, excepted, is, takes}
+use Rattle.queue.specs.Held.{any, excepted, takes}
 use Rattle.orders.specs.Priority.{rank_of}
 use Rattle.orders.specs.declared.order.Found.{Found}
 use Rattle.orders.specs.declared.order.Order.{Order}
 use Rattle.price_range.specs.declared.band.Band.{Band}
 use Rattle.rules.specs.Book.{Book, Phase, waiting, trading, halted, closed, on, band}
-use Rattle.rules.specs.Calls.{Call, order, quote, renew, change, cancel, halt, resume, end, resting, Outcome, refused, answered, lots}
+use Rattle.rules.specs.Calls.{Call, order, quote, renew, change, cancel, halt, resume, end, resting}
 use Rattle.rules.specs.Checks as checks
 use Rattle.rules.specs.Checks.{Check, first_of, allows, found, bid_of, ask_of, leg_checks}
 use Rattle.rules.specs.Laws.{Better}
-use Rattle.rules.specs.Reasons.{Reason, Between, In, Member, Price, Lots, Spread, NoTurn, SomeOf, Other, Taken, Rests, OfDay, Finding, Unreached, InPlace, leg_reasons, own_reasons, reasons, Holds, Reasoned}
+use Rattle.rules.specs.Reasons.{Reason, Between, In, Price, Spread, NoTurn, SomeOf, Other, Taken, Rests, OfDay, Finding, Unreached, InPlace, leg_reasons, own_reasons, reasons, Holds, Reasoned}
 use Rattle.rules.specs.Rules.{rule, accepted, unless_refused, renewed, changed, cancelled, cut_in_place, reentered}
 
 -- a test is true just where A holds

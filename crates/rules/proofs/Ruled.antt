@@ -1,5 +1,5 @@
 -- What a call gave is what the rules give.
-use Rattle.std.proofs.Common.{◌≡◌, ℕ, ◌+◌, ◌-◌, ◌<◌, ◌≤◌, Bool, true, false, cond, List, [], ◌∷◌, ◌++◌, length, take, drop, Some, None, Option, sym, refl, ap, ◌∙◌, subst, arith}
+use Rattle.std.proofs.Common.{◌≡◌, ℕ, ◌+◌, ◌-◌, Bool, true, false, cond, List, [], ◌∷◌, ◌++◌, length, take, drop, Some, None, Option, sym, refl, ap, ◌∙◌, subst, arith}
 use Rattle.std.proofs.lemmas.List.{take_at}
 use Rattle.terms.specs.declared.message.OrderCancel.{OrderCancel}
 use Rattle.terms.specs.declared.message.OrderChange.{OrderChange}
@@ -13,20 +13,19 @@ use Rattle.terms.specs.declared.side.TimeInForce.{TimeInForce}
 use Rattle.terms.specs.declared.trade.Answer.{Answer}
 use Rattle.terms.specs.declared.trade.Trade.{Trade}
 use Rattle.queue.specs.Held.{Held, remove}
-use Rattle.orders.specs.Priority.{with_lots}
 use Rattle.orders.specs.declared.order.Found.{Found}
 use Rattle.orders.specs.declared.order.Order.{Order}
 use Rattle.price_range.specs.Bands.{Update}
 use Rattle.price_range.specs.declared.band.Band.{Band}
 use Rattle.rules.specs.Book.{Answers, Book, trading, other, on, pick, band, holding, traded_lots}
 use Rattle.rules.specs.ByRule.{counted, event_of, ByRule, QuotePlaced}
-use Rattle.rules.specs.Calls.{Call, order, quote, renew, change, cancel, halt, resume, end, resting, Outcome, refused, answered, lots, Event}
+use Rattle.rules.specs.Calls.{Call, order, quote, renew, change, cancel, halt, resume, end, resting, Outcome, refused, answered}
 use Rattle.rules.specs.Checks.{found, first_of, checks, keeps_place}
-use Rattle.rules.specs.Meeting.{Met, Entered, meet, enter, incoming, remains, lapses}
+use Rattle.rules.specs.Meeting.{Met, Entered, meet, enter, incoming, lapses}
 use Rattle.rules.specs.Keeps.{Keeps}
 use Rattle.rules.specs.Rules as rules
 use Rattle.rules.specs.Rules.{Ruled, rule, accepted, unless_refused, laid, entering, entered, order_entered, ordered, quoted, renewed, cut_in_place, reentered, changed, cancelled}
-use Rattle.rules.specs.Tables.{written, meet_at, Entering, entering_of, enter_at}
+use Rattle.rules.specs.Tables.{enter_at}
 use Rattle.rules.proofs.Theorem.{keeps_by}
 
 -- a refused call

@@ -1,8 +1,7 @@
 -- A meeting that writes its trades into a table, one step at a time.
-use Rattle.std.proofs.Common.{◌≡◌, ℕ, suc, ◌+◌, ◌-◌, ◌<◌, ◌≤◌, min, Bool, true, false, cond, eqb, ltb, leb, List, [], ◌∷◌, ◌++◌, map, length, take, drop, set, Some, None, Option, sym, refl, ap, ◌∙◌, subst, arith, length-set, take-suc-set, drop-set-lt}
-use Rattle.std.proofs.lemmas.List.{append_assoc, append-nil, take-append-drop}
+use Rattle.std.proofs.Common.{◌≡◌, ℕ, suc, ◌+◌, ◌-◌, ◌<◌, ◌≤◌, min, Bool, true, false, cond, eqb, List, [], ◌∷◌, ◌++◌, map, length, take, drop, set, Some, None, Option, sym, refl, ap, ◌∙◌, subst, arith, length-set, take-suc-set, drop-set-lt}
+use Rattle.std.proofs.lemmas.List.{append_assoc, take-append-drop}
 use Rattle.std.proofs.lemmas.Bool.{eq-eqb, ne_eqb, le-leb, true≢false}
-use Rattle.std.proofs.lemmas.Bool.Decides.{nat_tests}
 use Rattle.terms.specs.declared.side.Side.{Side}
 use Rattle.terms.specs.declared.trade.Trade.{Trade}
 use Rattle.std.specs.List.{AllByRecursion as All}
@@ -13,8 +12,8 @@ use Rattle.queue.specs.Rank.{Rank}
 use Rattle.orders.specs.Priority.{rank_of, with_lots}
 use Rattle.orders.specs.declared.order.Order.{Order}
 use Rattle.price_range.specs.declared.band.Band.{Band}
-use Rattle.rules.specs.Meeting.{Incoming, can_meet, Step, stop, part, whole, step, stepped, trade, Met, meet}
-use Rattle.rules.specs.Tables.{written, Fits, Meeting, meeting_of, meet_at}
+use Rattle.rules.specs.Meeting.{Incoming, can_meet, Step, stop, stepped, trade, Met, meet}
+use Rattle.rules.specs.Tables.{written, Fits, meeting_of, meet_at}
 use Rattle.rules.proofs.Coupling.{StepIs, is_done, is_apart, is_part, is_whole, step_is}
 
 pub written_none : (place : ℕ) (table : List Trade) → written place [] table ≡ table

@@ -1,28 +1,25 @@
 -- Every day is lawful, and every call by the rules keeps it so.
-use Rattle.std.proofs.Common.{◌≡◌, ℕ, ◌+◌, ◌-◌, ◌<◌, ◌≤◌, min, max, Bool, true, false, cond, not, ◌&&◌, ◌||◌, eqb, ltb, leb, ◌⊎◌, List, [], ◌∷◌, Some, None, Option, sym, refl, ap, ◌∙◌, subst, inl, inr, arith}
+use Rattle.std.proofs.Common.{◌≡◌, ℕ, ◌<◌, ◌≤◌, Bool, true, false, cond, not, ◌&&◌, ltb, ◌⊎◌, List, [], ◌∷◌, Some, None, Option, sym, refl, ap, ◌∙◌, subst, inl, inr, arith}
 use Rattle.std.proofs.lemmas.Bool.{or_parts, true≢false}
 use Rattle.std.proofs.lemmas.Bool.Decides.{nat_tests}
 use Rattle.std.specs.List.{AllByRecursion as All}
 use Rattle.terms.specs.declared.message.OrderChange.{OrderChange}
-use Rattle.terms.specs.declared.message.QuoteEntry.{QuoteEntry}
 use Rattle.terms.specs.declared.message.Quoted.{Quoted}
 use Rattle.terms.specs.declared.refusal.Refusal.{Refusal}
-use Rattle.terms.specs.declared.side.Side.TheVariants.{Buy, Sell}
-use Rattle.terms.specs.declared.trade.Trade.{Trade}
+use Rattle.terms.specs.declared.side.Side.TheVariants.{Buy}
 use Rattle.queue.proofs.Inserts.{all_map}
 use Rattle.orders.specs.declared.order.Found.{Found}
 use Rattle.orders.specs.declared.order.Order.{Order}
 use Rattle.price_range.specs.declared.band.Band.{Band}
 use Rattle.rules.specs.Book.{Answers, Book, Phase, waiting, trading, halted, closed, band}
-use Rattle.rules.specs.Calls.{Call, order, quote, renew, change, cancel, halt, resume, end, resting, Outcome, refused, answered, lots, Event}
-use Rattle.rules.specs.Checks.{Check, found, first_of, checks, value_checks, bad_lots, is_none, is_trading, is_halted, if_found, rises, improves, allows}
+use Rattle.rules.specs.Calls.{Call, order, quote, renew, change, cancel, halt, resume, end, resting, Outcome, answered, Event}
+use Rattle.rules.specs.Checks.{Check, found, first_of, checks, bad_lots, is_none, is_trading, is_halted, if_found, rises, improves, allows}
 use Rattle.rules.specs.Keeps.{Explained, Keeps}
-use Rattle.rules.specs.Laws.{Lawful, Fair, FairOutcome, FairTrades, Inside, Uncrossed}
-use Rattle.rules.specs.Ledger.{Entries, Ledger, by_outcome, keeping, deals, opens, opens_renewal, posts, ledger}
+use Rattle.rules.specs.Laws.{Lawful, Fair, FairTrades, Inside, Uncrossed}
+use Rattle.rules.specs.Ledger.{Entries, by_outcome, keeping, deals, opens, opens_renewal, posts, ledger}
 use Rattle.rules.specs.Meeting.{can_meet}
 use Rattle.rules.specs.Rules.{Ruled, Day, opened, called, after, history, event_of, rule, accepted, unless_refused, quoted, renewed, changed, cancelled}
 use Rattle.rules.proofs.Agreement.{Agrees, ledger_of, Kept, kept_order, kept_quote, kept_change, kept_cancel, kept_step, kept_end}
-use Rattle.rules.proofs.Entering.{Apart}
 use Rattle.rules.proofs.Entries.{at_zero}
 use Rattle.rules.proofs.Explains.{Explains, explained_order, explained_quote, explained_renewal, explained_change, explained_cancel, explained_end}
 use Rattle.rules.proofs.Reasons.{reasoned}

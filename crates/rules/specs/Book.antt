@@ -1,5 +1,5 @@
 -- A book at one moment of its day.
-use Rattle.std.specs.Prelude.{ℕ, ◌+◌, Bool, cond, List, [], ◌∷◌, Some, None, Option}
+use Rattle.std.specs.Prelude.{ℕ, ◌+◌, List, [], ◌∷◌, Option}
 use Rattle.terms.specs.declared.message.Quoted.{Quoted}
 use Rattle.terms.specs.declared.setup.Instrument.{Instrument}
 use Rattle.terms.specs.declared.side.Side.{Side}

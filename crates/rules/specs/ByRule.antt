@@ -1,5 +1,5 @@
 -- A call that is answered by the rules.
-use Rattle.std.specs.Prelude.{◌≡◌, ℕ, false, List, [], ◌++◌, length, take, drop, None}
+use Rattle.std.specs.Prelude.{◌≡◌, ℕ, false, List, ◌++◌, length, take, drop, None}
 use Rattle.terms.specs.declared.message.QuoteEntry.{QuoteEntry}
 use Rattle.terms.specs.declared.side.Side.TheVariants.{Buy, Sell}
 use Rattle.terms.specs.declared.trade.Answer.{Answer}

@@ -1,13 +1,12 @@
 -- Worked cases: what the rules give on small books.
 use Rattle.std.specs.Prelude.{◌≡◌, ℕ, List, [], ◌∷◌}
-use Rattle.terms.specs.declared.message.OrderEntry.{OrderEntry}
 use Rattle.terms.specs.declared.setup.Instrument.{Instrument}
 use Rattle.terms.specs.declared.side.Side.{Side}
 use Rattle.terms.specs.declared.side.Side.TheVariants.{Buy, Sell}
 use Rattle.terms.specs.declared.side.TimeInForce.TheVariants.{Day}
 use Rattle.terms.specs.declared.trade.Trade.{Trade}
 use Rattle.price_range.specs.Bands.{common, last_quote}
-use Rattle.rules.specs.Book.{Answers, Book}
+use Rattle.rules.specs.Book.{Answers}
 use Rattle.rules.specs.Calls.{Call, order, quote, change, Outcome, answered}
 use Rattle.rules.specs.Rules.{Ruled, rule, after, opening}
 

@@ -2,9 +2,8 @@
 --   CanMeet    some price of the range is within both limits
 --   Whole      each trade but the last takes all lots of its order
 --   Filled     the orders met are the first of the other side, as many as can meet and as its lots suffice for
-use Rattle.std.specs.Prelude.{◌≡◌, ℕ, ◌≤◌, min, false, ◌⊎◌, List, [], ◌∷◌, ◌++◌, map, length, take, Some, None, Option}
+use Rattle.std.specs.Prelude.{◌≡◌, ℕ, ◌≤◌, min, ◌⊎◌, List, [], ◌∷◌, ◌++◌, map, length, take, Some, None, Option}
 use Rattle.std.specs.List.{AllByRecursion as All}
-use Rattle.terms.specs.declared.message.OrderChange.{OrderChange}
 use Rattle.terms.specs.declared.side.Side.{Side}
 use Rattle.terms.specs.declared.side.Side.TheVariants.{Buy, Sell}
 use Rattle.terms.specs.declared.trade.Trade.{Trade}

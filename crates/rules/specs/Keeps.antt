@@ -1,5 +1,5 @@
 -- What every call of a book keeps: the day, its laws, and what the call's own outcome says.
-use Rattle.std.specs.Prelude.{◌≡◌, ℕ, List, ◌∷◌}
+use Rattle.std.specs.Prelude.{◌≡◌, List, ◌∷◌}
 use Rattle.terms.specs.declared.trade.Trade.{Trade}
 use Rattle.rules.specs.Accounts.{Accounted}
 use Rattle.rules.specs.Book.{Answers, Book, resting_lots}

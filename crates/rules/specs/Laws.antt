@@ -12,7 +12,6 @@ use Rattle.price_range.specs.declared.band.Band.{Band}
 use Rattle.rules.specs.Book.{Answers, Book}
 use Rattle.rules.specs.Calls.{Outcome, refused, answered, lots, Event}
 use Rattle.rules.specs.Ledger.{Entry, Entries, Ledger, at, left, deal, opens, ledger}
-use Rattle.rules.specs.Rules.{Day}
 
 -- the lots that rest under a number
 abbrev pub under : ℕ → List Order → ℕ

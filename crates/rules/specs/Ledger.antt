@@ -5,7 +5,6 @@
 --   ledger                the ledger after a list of events
 use Rattle.std.specs.Prelude.{ℕ, ◌+◌, ◌-◌, Bool, true, false, cond, ◌&&◌, List, [], ◌∷◌, Some, None, Option, ◌==◌, nat_le, nat_lt}
 use Rattle.terms.specs.declared.message.OrderChange.{OrderChange}
-use Rattle.terms.specs.declared.message.OrderEntry.{OrderEntry}
 use Rattle.terms.specs.declared.message.QuoteEntry.{QuoteEntry}
 use Rattle.terms.specs.declared.message.Quoted.{Quoted}
 use Rattle.terms.specs.declared.side.Side.{Side}
@@ -13,7 +12,6 @@ use Rattle.terms.specs.declared.side.Side.TheVariants.{Buy, Sell}
 use Rattle.terms.specs.declared.side.TimeInForce.{TimeInForce}
 use Rattle.terms.specs.declared.side.TimeInForce.TheVariants.{Day, Immediate}
 use Rattle.terms.specs.declared.trade.Trade.{Trade}
-use Rattle.price_range.specs.Bands.{Update}
 use Rattle.price_range.specs.declared.band.Band.{Band}
 use Rattle.rules.specs.Book.{Answers}
 use Rattle.rules.specs.Calls.{Call, order, quote, renew, change, cancel, halt, resume, end, resting, Outcome, refused, answered, lots, Event}

@@ -1,5 +1,5 @@
 -- The first and the last of a day.
-use Rattle.std.specs.Prelude.{ℕ, ◌+◌, Bool, not, ◌&&◌, ◌||◌, List, [], ◌∷◌, length, Option, ◌==◌}
+use Rattle.std.specs.Prelude.{◌+◌, Bool, not, ◌&&◌, ◌||◌, [], ◌∷◌, length, Option, ◌==◌}
 use Rattle.terms.specs.Setups.{instrument_allowed, within}
 use Rattle.terms.specs.declared.refusal.Refusal.{Refusal}
 use Rattle.terms.specs.declared.refusal.Refusal.TheVariants.{OutsideLimits, UnfitQueue}

@@ -1,7 +1,7 @@
 -- Why a call is refused, in the words of the exchange's tables. Nothing here cites a test of the rules.
 --   reasons     the reasons of each call, each with what must hold for it
 --   Reasoned    a call is refused just where a reason holds, and then for the one with the lowest number
-use Rattle.std.specs.Prelude.{◌≡◌, ℕ, ◌+◌, ◌-◌, ◌%◌, ◌<◌, ◌≤◌, true, false, ◌⊎◌, List, [], ◌∷◌, length, Some, None, Option, ◌≢◌}
+use Rattle.std.specs.Prelude.{◌≡◌, ℕ, ◌+◌, ◌-◌, ◌%◌, ◌<◌, ◌≤◌, false, ◌⊎◌, List, [], ◌∷◌, length, Some, None, Option, ◌≢◌}
 use Rattle.terms.specs.Values.{refusal_number}
 use Rattle.terms.specs.declared.message.OrderCancel.{OrderCancel}
 use Rattle.terms.specs.declared.message.OrderChange.{OrderChange}
@@ -18,7 +18,7 @@ use Rattle.terms.specs.declared.side.TimeInForce.TheVariants.{Day, Immediate}
 use Rattle.orders.specs.declared.order.Found.{Found}
 use Rattle.orders.specs.declared.order.Order.{Order}
 use Rattle.price_range.specs.declared.band.Band.{Band}
-use Rattle.rules.specs.Book.{Book, Phase, waiting, trading, halted, closed, on, band}
+use Rattle.rules.specs.Book.{Book, trading, halted, on, band}
 use Rattle.rules.specs.Calls.{Call, order, quote, renew, change, cancel, halt, resume, end, resting, Outcome, refused, answered, lots}
 use Rattle.rules.specs.Checks.{allows, found, bid_of, ask_of, without}
 use Rattle.rules.specs.Laws.{Better}

@@ -1,5 +1,5 @@
 -- What each call answers and leaves, and the days that follow from it.
-use Rattle.std.specs.Prelude.{◌≡◌, ℕ, ◌+◌, ◌-◌, ◌≤◌, Bool, true, false, cond, not, ◌&&◌, ◌||◌, List, [], ◌∷◌, ◌++◌, length, drop, Some, None, Option}
+use Rattle.std.specs.Prelude.{◌≡◌, ℕ, ◌+◌, ◌-◌, ◌≤◌, Bool, true, false, cond, List, [], ◌∷◌, ◌++◌, length, drop, Some, None, Option}
 use Rattle.terms.specs.Setups.{instrument_allowed}
 use Rattle.terms.specs.declared.message.OrderCancel.{OrderCancel}
 use Rattle.terms.specs.declared.message.OrderChange.{OrderChange}
@@ -11,10 +11,9 @@ use Rattle.terms.specs.declared.setup.Instrument.{Instrument}
 use Rattle.terms.specs.declared.side.Side.{Side}
 use Rattle.terms.specs.declared.side.Side.TheVariants.{Buy, Sell}
 use Rattle.terms.specs.declared.side.TimeInForce.{TimeInForce}
-use Rattle.terms.specs.declared.trade.Answer.{Answer}
 use Rattle.terms.specs.declared.trade.Trade.{Trade}
-use Rattle.queue.specs.Held.{Held, insert, remove, is, change as changeFirst}
-use Rattle.orders.specs.Priority.{before, with_lots}
+use Rattle.queue.specs.Held.{remove, is, change as changeFirst}
+use Rattle.orders.specs.Priority.{with_lots}
 use Rattle.orders.specs.declared.order.Found.{Found}
 use Rattle.orders.specs.declared.order.Order.{Order}
 use Rattle.price_range.specs.Bands.{Update}

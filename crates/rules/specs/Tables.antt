@@ -1,5 +1,5 @@
 -- Meetings that write their trades into a table, from a place on.
-use Rattle.std.specs.Prelude.{◌≡◌, ℕ, ◌+◌, ◌<◌, ◌≤◌, Bool, false, cond, List, [], ◌∷◌, ◌++◌, length, take, drop, Option}
+use Rattle.std.specs.Prelude.{◌≡◌, ℕ, ◌+◌, ◌<◌, ◌≤◌, Bool, false, cond, List, ◌++◌, length, take, drop, Option}
 use Rattle.std.specs.List.{AllByRecursion as All}
 use Rattle.terms.specs.declared.side.Side.{Side}
 use Rattle.terms.specs.declared.trade.Trade.{Trade}

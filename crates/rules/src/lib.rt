@@ -1,4 +1,6 @@
 // The rules of a book as definitions, the ledger of a day, and the proofs of its laws.
+#![tactic(auto)]
+
 ghost use Rattle.rules.specs.Cases.{WorkedCases};
 
 // How many worked cases the rules settle as they should.

@@ -1,5 +1,5 @@
 -- The tests of an order that was found.
-use Rattle.std.proofs.Common.{◌≡◌, ℕ, Bool, true, false, cond, not, ◌&&◌, List, [], ◌∷◌, Some, None, Option, sym, refl, ap, ◌∙◌, subst, arith}
+use Rattle.std.proofs.Common.{◌≡◌, ℕ, Bool, true, false, cond, Some, None, Option, sym, refl, ap, ◌∙◌, arith}
 use Rattle.terms.specs.declared.message.OrderChange.{OrderChange}
 use Rattle.terms.specs.declared.message.Quoted.{Quoted}
 use Rattle.terms.specs.declared.refusal.Refusal.{Refusal}
@@ -9,7 +9,6 @@ use Rattle.queue.specs.Held.{Held}
 use Rattle.orders.specs.declared.order.BuyOrder.{BuyOrder}
 use Rattle.orders.specs.declared.order.Found.{Found}
 use Rattle.orders.specs.declared.order.SellOrder.{SellOrder}
-use Rattle.price_range.specs.declared.band.Band.{Band}
 use Rattle.rules.specs.Book.{Book}
 use Rattle.rules.specs.Checks.{first_of, found_checks, not_owner, rises, beyond_range, change_needs_turn, change_takes, keeps_place, turns_used_up, taken}
 use Rattle.book.specs.Books.{book_of}

@@ -1,11 +1,11 @@
 -- One call more of a list.
-use Rattle.std.proofs.Common.{◌≡◌, ℕ, ◌+◌, ◌<◌, ◌≤◌, List, [], ◌∷◌, ◌++◌, length, get_or, drop, sym, ap, ◌∙◌, subst}
+use Rattle.std.proofs.Common.{◌≡◌, ℕ, ◌+◌, ◌<◌, ◌≤◌, List, [], ◌∷◌, length, get_or, drop, sym, ap, ◌∙◌, subst}
 use Rattle.std.proofs.lemmas.List.{drop_all, drop_more}
 use Rattle.terms.specs.declared.trade.Trade.{Trade}
 use Rattle.rules.specs.Book.{Book}
 use Rattle.rules.specs.ByRule.{ByRule}
 use Rattle.rules.specs.Calls.{Outcome}
-use Rattle.rules.specs.Rules.{rule, after, table_after}
+use Rattle.rules.specs.Rules.{after, table_after}
 use Rattle.book.specs.Dispatch.{call_of, calls_of}
 use Rattle.book.specs.declared.call.Call.{Call}
 

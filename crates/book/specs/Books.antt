@@ -1,5 +1,5 @@
 -- A phase with its two queues and its range, as the book that the rules speak of.
-use Rattle.std.specs.Prelude.{ℕ, Some, None, Ok, Err, Option, Result}
+use Rattle.std.specs.Prelude.{ℕ, Some, Ok, Err, Option, Result}
 use Rattle.terms.specs.declared.message.Quoted.{Quoted}
 use Rattle.terms.specs.declared.refusal.Refusal.{Refusal}
 use Rattle.terms.specs.declared.setup.Instrument.{Instrument}

@@ -1,4 +1,6 @@
 // The book of one warrant or stock.
+#![tactic(auto)]
+
 pub mod call;
 mod cancel;
 mod change;

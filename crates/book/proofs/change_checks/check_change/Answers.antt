@@ -1,4 +1,4 @@
-use Rattle.std.proofs.Common.{◌≡◌, ◌+◌, false, ◌&&◌, ltb, sym, refl, ap, ◌∙◌, subst}
+use Rattle.std.proofs.Common.{◌≡◌, ◌+◌, false, ◌&&◌, ltb, sym, refl, ◌∙◌, subst}
 use Rattle.rules.specs.Checks.{first_of, found_checks, change_checks, found, is_trading}
 use Rattle.book.specs.Books.{book_of}
 use Rattle.book.specs.Changes.{phase_in, band_in, Checked}

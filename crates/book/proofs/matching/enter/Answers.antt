@@ -20,5 +20,5 @@ returns-then-not-lapse g c =
           let room = r c.if-not-lapse.true in
           enters_by c.args.lapse s o own opposite _ _ _ _ _ _ _ (c.meet-met.ensures.meets k f) (c.meet-met.ensures.capacity k)
           (joined_by c.args.lapse s o rested own _ left c.if-not-lapse.true c.if-met-gt0.true refl
-          (placed g.O.Sided.plain g.O.Ranked.rank s c.requires.own-side (g.Own.Queue.held c.args.own.now) (g.Own.Queue.held c.put.new.self) c.from_order.result rested (c.put.ensures.leaves l) c.from_order.ensures c.if-met-gt0.true (record { place = room.place; free = room.free })));
+          (placed g.O.Sided.plain g.O.Ranked.rank s c.requires.own_side (g.Own.Queue.held c.args.own.now) (g.Own.Queue.held c.put.new.self) c.from_order.result rested (c.put.ensures.leaves l) c.from_order.ensures c.if-met-gt0.true (record { place = room.place; free = room.free })));
     }

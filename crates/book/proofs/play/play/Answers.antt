@@ -13,7 +13,7 @@ loop-call-preserved g c =
       (λ l. x.ensures.keeps.0 (v.0 l)),
       (λ k. x.ensures.keeps.1 (v.1 k)),
       λ l k.
-          let w = play_next (length c.args.trades.now) c.args.calls.now c.loop-call.call-index _ (length c.loop-call.trades) _ _ _ _ _ c.loop-call-test.true c.loop-call.auto.trades (x.ensures.by-rule (v.0 l) (v.1 k)) in
+          let w = play_next (length c.args.trades.now) c.args.calls.now c.loop-call.call-index _ (length c.loop-call.trades) _ _ _ _ _ c.loop-call-test.true c.loop-call.auto.trades (x.ensures.by_rule (v.0 l) (v.1 k)) in
           (w.0 ∙ (v.2 l k).0, w.1 ∙ (v.2 l k).1),
     )
 
@@ -27,7 +27,7 @@ returns g c =
     let none = play_done n c.args.calls.now c.loop-call.call-index c.loop-call-test.false in
     record {
       keeps = (v.0, v.1);
-      by-rule = λ l k. (sym (ap (λ ds. after ds b') none) ∙ (v.2 l k).0, sym (ap (λ ds. table_after ds b' c.loop-call.trades) none) ∙ (v.2 l k).1);
+      by_rule = λ l k. (sym (ap (λ ds. after ds b') none) ∙ (v.2 l k).0, sym (ap (λ ds. table_after ds b' c.loop-call.trades) none) ∙ (v.2 l k).1);
       day = λ l k range h d.
           let same : after cs b ≡ b' = sym (sym (ap (λ ds. after ds b') none) ∙ (v.2 l k).0) in
           let day = day_after cs h b d in

@@ -26,7 +26,7 @@ returns-in_ok-push_messages c =
     record {
       prints = prints;
       covers = dump_covers tape (λ i. omega (arith, c.type_inv.tape i));
-      reads-back =
+      reads_back =
           ap (λ bs. map entry_of (take (length (reading_of tape).messages) (drop 1 (lines_of bs)))) prints
           ∙ dump_back tape (λ i. omega (arith, c.type_inv.tape i)) (omega arith);
     }
@@ -42,7 +42,7 @@ returns-in_ok-push_refused-2 c =
     record {
       prints = prints;
       covers = dump_covers tape (λ i. omega (arith, c.type_inv.tape i));
-      reads-back =
+      reads_back =
           ap (λ bs. map entry_of (take (length (reading_of tape).messages) (drop 1 (lines_of bs)))) prints
           ∙ dump_back tape (λ i. omega (arith, c.type_inv.tape i)) (omega arith);
     }
@@ -52,5 +52,5 @@ returns-then-tape-gt-TAPE-MAX c =
     record {
       prints = search rules;
       covers = dump_covers c.args.tape.now (λ i. omega (arith, c.type_inv.tape i));
-      reads-back = search rules;
+      reads_back = search rules;
     }

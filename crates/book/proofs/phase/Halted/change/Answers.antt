@@ -1,4 +1,4 @@
-use Rattle.std.proofs.Common.{◌≡◌, ◌+◌, [], Some, sym, refl, ap, ◌∙◌}
+use Rattle.std.proofs.Common.{◌+◌, [], Some, sym, refl, ap, ◌∙◌}
 use Rattle.std.proofs.lemmas.Result.{err_from_is_err_and}
 use Rattle.queue.specs.Held.{after_put}
 use Rattle.orders.specs.Priority.{rank_of}
@@ -18,7 +18,7 @@ returns-in_err-found g c =
     let s = c.args.self.now in
     let b = halted_book s (g.B.Queue.held c.args.buys.now) (g.S.Queue.held c.args.sells.now) in
     let w = settled_all (g.B.Queue.lawful c.args.buys.now) (g.S.Queue.lawful c.args.sells.now) b b (λ l k r. ruled_refused (change c.args.change 0) (b r) _ [] (c.in_err-found.ensures.answers l k (Some s.quote))) in
-    rw (p.1, p.2) (record { refused = (refl, refl, refl); keeps = ((λ l. l), λ l. l); by-rule = w.0; day = w.1 })
+    rw (p.1, p.2) (record { refused = (refl, refl, refl); keeps = ((λ l. l), λ l. l); by_rule = w.0; day = w.1 })
 
 pub returns-then-keeps_place : goal.returns-then-keeps_place
 returns-then-keeps_place g c =
@@ -36,7 +36,7 @@ returns-then-keeps_place g c =
     let q = c.in_ok-found.ensures.answers l k (Some s.quote) in
     let cut = c.lower.ensures.cuts l k in
     answered_by c.lower.result c.lower.ensures.answers (change-lowered d 0 f (b r) q.0 q.1 (plain_buys buys') (plain_sells sells') [] (sym c.if-keeps_place.ensures) cut.0 cut.1)) in
-    record { refused = tt; keeps = c.lower.ensures.keeps; by-rule = w.0; day = w.1 }
+    record { refused = tt; keeps = c.lower.ensures.keeps; by_rule = w.0; day = w.1 }
 
 pub returns : goal.returns
 returns g c =
@@ -66,6 +66,6 @@ returns g c =
     record {
       refused = tt;
       keeps = ((λ l. put.ensures.keeps.0 (took.ensures.keeps.0 l)), λ k. put.ensures.keeps.1 (took.ensures.keeps.1 k));
-      by-rule = w.0;
+      by_rule = w.0;
       day = w.1;
     }

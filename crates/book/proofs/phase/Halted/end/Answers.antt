@@ -16,4 +16,4 @@ returns g c =
     (λ l k r.
     let left = end.ensures.leaves l k in
     record { outcome = ap answered (end.ensures.answers l k); trades = refl; book = λ i. book_of closed s.terms s.next (Some s.quote) (left.0 i) (left.1 i) r }) in
-    record { keeps = end.ensures.keeps; by-rule = w.0; day = w.1 }
+    record { keeps = end.ensures.keeps; by_rule = w.0; day = w.1 }

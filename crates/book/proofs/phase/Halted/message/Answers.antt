@@ -10,7 +10,7 @@ returns-in-Resume g c =
     record {
       refused = tt;
       keeps = ((λ l. l), λ k. k);
-      by-rule = λ l k. called_by (ap (λ m. message_of m (length c.args.trades.now)) c.in-Resume.is) refl (on_table c.args.trades.now (c.resume.ensures.by-rule (g.B.Queue.held c.args.buys.now) (g.S.Queue.held c.args.sells.now) (g.R.PriceRange.answers c.args.range.now)));
+      by_rule = λ l k. called_by (ap (λ m. message_of m (length c.args.trades.now)) c.in-Resume.is) refl (on_table c.args.trades.now (c.resume.ensures.by_rule (g.B.Queue.held c.args.buys.now) (g.S.Queue.held c.args.sells.now) (g.R.PriceRange.answers c.args.range.now)));
     }
 
 pub returns-in-End : goal.returns-in-End
@@ -18,7 +18,7 @@ returns-in-End g c =
     record {
       refused = tt;
       keeps = c.end.ensures.keeps;
-      by-rule = λ l k. called_by (ap (λ m. message_of m (length c.args.trades.now)) c.in-End.is) refl (on_table c.args.trades.now (c.end.ensures.by-rule l k (g.R.PriceRange.answers c.args.range.now)));
+      by_rule = λ l k. called_by (ap (λ m. message_of m (length c.args.trades.now)) c.in-End.is) refl (on_table c.args.trades.now (c.end.ensures.by_rule l k (g.R.PriceRange.answers c.args.range.now)));
     }
 
 pub returns-in-Change : goal.returns-in-Change
@@ -28,8 +28,8 @@ returns-in-Change g c =
     record {
       refused = reply_refused _ _ x.result y.result y.ensures (λ e h. (ap (λ p. Halted p) h.0, h.1, h.2, refl, refl)) x.ensures.refused;
       keeps = x.ensures.keeps;
-      by-rule = λ l k.
-          let r = on_table c.args.trades.now (x.ensures.by-rule l k (g.R.PriceRange.answers c.args.range.now)) in
+      by_rule = λ l k.
+          let r = on_table c.args.trades.now (x.ensures.by_rule l k (g.R.PriceRange.answers c.args.range.now)) in
           called_by (ap (λ m. message_of m (length c.args.trades.now)) c.in-Change.is) (reply_outcome x.result y.result y.ensures) (record { outcome = r.outcome; trades = r.trades; book = r.book });
     }
 
@@ -40,5 +40,5 @@ returns-in-Cancel g c =
     record {
       refused = reply_refused _ _ x.result y.result y.ensures (λ e h. (refl, h.0, h.1, refl, refl)) x.ensures.refused;
       keeps = x.ensures.keeps;
-      by-rule = λ l k. called_by (ap (λ m. message_of m (length c.args.trades.now)) c.in-Cancel.is) (reply_outcome x.result y.result y.ensures) (on_table c.args.trades.now (x.ensures.by-rule l k (g.R.PriceRange.answers c.args.range.now)));
+      by_rule = λ l k. called_by (ap (λ m. message_of m (length c.args.trades.now)) c.in-Cancel.is) (reply_outcome x.result y.result y.ensures) (on_table c.args.trades.now (x.ensures.by_rule l k (g.R.PriceRange.answers c.args.range.now)));
     }

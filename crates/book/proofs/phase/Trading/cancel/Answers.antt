@@ -10,6 +10,6 @@ returns g c =
     record {
       refused = c.cancel_order.ensures.refused;
       keeps = c.cancel_order.ensures.keeps;
-      by-rule = λ l k range. by l k trading p.terms p.next (Some p.quote) range refl;
+      by_rule = λ l k range. by l k trading p.terms p.next (Some p.quote) range refl;
       day = λ l k range. keeps_ruled (by l k trading p.terms p.next (Some p.quote) range refl);
     }

@@ -23,7 +23,7 @@ returns-in_err-found g c =
     let n = length c.args.trades.now in
     let band = ap (λ r. first_of (change_checks c.args.change n (book_of trading s.terms s.next (Some s.quote) buys sells (λ us. r)))) c.band-band.ensures in
     let w = settled (g.B.Queue.lawful c.args.buys.now) (g.S.Queue.lawful c.args.sells.now) (λ l k. ruled_refused (change c.args.change n) b _ c.args.trades.now (sym band ∙ c.in_err-found.ensures.answers l k (Some s.quote))) in
-    rw (p.1, p.2) (record { refused = (refl, refl, refl, refl); keeps = ((λ l. l), λ l. l); by-rule = w.0; day = w.1 })
+    rw (p.1, p.2) (record { refused = (refl, refl, refl, refl); keeps = ((λ l. l), λ l. l); by_rule = w.0; day = w.1 })
 
 pub returns-then-keeps_place : goal.returns-then-keeps_place
 returns-then-keeps_place g c =
@@ -42,7 +42,7 @@ returns-then-keeps_place g c =
     let cut = c.lower.ensures.cuts l k in
     answered_by c.lower.result c.lower.ensures.answers
     (change-lowered d n f b (sym band ∙ q.0) q.1 (plain_buys (g.B.Queue.held c.lower.new.buys)) (plain_sells (g.S.Queue.held c.lower.new.sells)) c.args.trades.now (sym c.if-keeps_place.ensures) cut.0 cut.1)) in
-    record { refused = tt; keeps = c.lower.ensures.keeps; by-rule = w.0; day = w.1 }
+    record { refused = tt; keeps = c.lower.ensures.keeps; by_rule = w.0; day = w.1 }
 
 pub returns : goal.returns
 returns g c =
@@ -79,6 +79,6 @@ returns g c =
     record {
       refused = tt;
       keeps = ((λ l. met.ensures.keeps.0 (took.ensures.keeps.0 l)), λ k. met.ensures.keeps.1 (took.ensures.keeps.1 k));
-      by-rule = w.0;
+      by_rule = w.0;
       day = w.1;
     }

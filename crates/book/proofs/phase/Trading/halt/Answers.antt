@@ -5,6 +5,6 @@ use Rattle.book.proofs.phase.Trading.halt.Goals as goal
 pub returns : goal.returns
 returns c =
     record {
-      by-rule = λ buys sells range. record { outcome = refl; trades = refl; book = refl };
+      by_rule = λ buys sells range. record { outcome = refl; trades = refl; book = refl };
       day = λ buys sells range. keeps_ruled {table = []} (record { outcome = refl; trades = refl; book = refl });
     }

@@ -8,7 +8,7 @@ returns-in-Halt g c =
     record {
       refused = tt;
       keeps = ((λ l. l), λ k. k);
-      by-rule = λ l k. called_by (ap (λ m. message_of m (length c.args.trades.now)) c.in-Halt.is) refl (on_table c.args.trades.now (c.halt.ensures.by-rule (g.B.Queue.held c.args.buys.now) (g.S.Queue.held c.args.sells.now) (g.R.PriceRange.answers c.args.range.now)));
+      by_rule = λ l k. called_by (ap (λ m. message_of m (length c.args.trades.now)) c.in-Halt.is) refl (on_table c.args.trades.now (c.halt.ensures.by_rule (g.B.Queue.held c.args.buys.now) (g.S.Queue.held c.args.sells.now) (g.R.PriceRange.answers c.args.range.now)));
     }
 
 pub returns-in-End : goal.returns-in-End
@@ -16,5 +16,5 @@ returns-in-End g c =
     record {
       refused = tt;
       keeps = c.end.ensures.keeps;
-      by-rule = λ l k. called_by (ap (λ m. message_of m (length c.args.trades.now)) c.in-End.is) refl (on_table c.args.trades.now (c.end.ensures.by-rule l k (g.R.PriceRange.answers c.args.range.now)));
+      by_rule = λ l k. called_by (ap (λ m. message_of m (length c.args.trades.now)) c.in-End.is) refl (on_table c.args.trades.now (c.end.ensures.by_rule l k (g.R.PriceRange.answers c.args.range.now)));
     }

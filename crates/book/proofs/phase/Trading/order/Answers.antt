@@ -18,7 +18,7 @@ returns-in_err-check_order g c =
     let b = trading_book c.args.self.now (g.B.Queue.held c.args.buys.now) (g.S.Queue.held c.args.sells.now) (g.R.PriceRange.answers c.args.range.now) in
     let call = order c.args.side c.args.time c.args.entry (length c.args.trades.now) in
     let w = settled (g.B.Queue.lawful c.args.buys.now) (g.S.Queue.lawful c.args.sells.now) (λ l k. ruled_refused call b _ c.args.trades.now (refused_by _ _ c.in_err-check_order.ensures.answers)) in
-    rw (p.1, p.2) (record { refused = (refl, refl, refl, refl); keeps = ((λ l. l), λ l. l); by-rule = w.0; day = w.1 })
+    rw (p.1, p.2) (record { refused = (refl, refl, refl, refl); keeps = ((λ l. l), λ l. l); by_rule = w.0; day = w.1 })
 
 pub returns : goal.returns
 returns g c =
@@ -44,4 +44,4 @@ returns g c =
     (c.traded_lots.ensures ∙ ap (λ n. traded_lots (take n met.new.trades)) count)
     (ap (λ p. p.0) c.remainder-resting.ensures ∙ ap (λ u. cond u 0 met.result.left) lapse)
     (ap (λ p. p.1) c.remainder-resting.ensures ∙ ap (λ u. cond u met.result.left 0) lapse)) in
-    record { refused = tt; keeps = met.ensures.keeps; by-rule = w.0; day = w.1 }
+    record { refused = tt; keeps = met.ensures.keeps; by_rule = w.0; day = w.1 }

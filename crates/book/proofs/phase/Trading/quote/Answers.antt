@@ -14,7 +14,7 @@ returns-in_err-check_quote g c =
     let p = err_from_is_err_and c.from_residual.result c.from_residual.ensures.1 in
     let b = trading_book c.args.self.now (g.B.Queue.held c.args.buys.now) (g.S.Queue.held c.args.sells.now) (g.R.PriceRange.answers c.args.range.now) in
     let w = settled (g.B.Queue.lawful c.args.buys.now) (g.S.Queue.lawful c.args.sells.now) (λ l k. ruled_refused (quote c.args.entry (length c.args.trades.now)) b _ c.args.trades.now (refused_by _ _ (c.in_err-check_quote.ensures.answers l k))) in
-    rw (p.1, p.2) (record { refused = (refl, refl, refl, refl, refl); keeps = ((λ l. l), λ l. l); by-rule = w.0; day = w.1 })
+    rw (p.1, p.2) (record { refused = (refl, refl, refl, refl, refl); keeps = ((λ l. l), λ l. l); by_rule = w.0; day = w.1 })
 
 pub returns : goal.returns
 returns g c =
@@ -30,4 +30,4 @@ returns g c =
     let sound = c.in_ok-check_quote.ensures.sound in
     let ready = quote_ready c.args.entry table b passes (record { buys = sound_buys buys (sound.0 l); sells = sound_sells sells (sound.1 k) }) in
     quote_ruled c.args.entry (length table) b placed.result table placed.new.trades (plain_buys (g.B.Queue.held placed.new.buys)) (plain_sells (g.S.Queue.held placed.new.sells)) (g.R.PriceRange.answers placed.new.range) passes (placed.ensures.places l k trading b.terms ready) placed.ensures.told) in
-    record { refused = tt; keeps = placed.ensures.keeps; by-rule = w.0; day = w.1 }
+    record { refused = tt; keeps = placed.ensures.keeps; by_rule = w.0; day = w.1 }

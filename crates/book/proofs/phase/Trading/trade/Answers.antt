@@ -10,5 +10,5 @@ returns-in-Cancel g c =
     record {
       refused = still_refused _ _ x.result (λ e h. (refl, h.0, h.1, refl, refl)) x.ensures.refused;
       keeps = x.ensures.keeps;
-      by-rule = λ l k stays. called_by (ap (λ m. message_of m (length c.args.trades.now)) c.in-Cancel.is) refl (on_table c.args.trades.now (x.ensures.by-rule l k (g.R.PriceRange.answers c.args.range.now)));
+      by_rule = λ l k stays. called_by (ap (λ m. message_of m (length c.args.trades.now)) c.in-Cancel.is) refl (on_table c.args.trades.now (x.ensures.by_rule l k (g.R.PriceRange.answers c.args.range.now)));
     }

@@ -8,5 +8,5 @@ returns-in-End g c =
     record {
       refused = tt;
       keeps = c.end.ensures.keeps;
-      by-rule = λ l k. called_by (ap (λ m. message_of m (length c.args.trades.now)) c.in-End.is) refl (on_table c.args.trades.now (c.end.ensures.by-rule l k (g.R.PriceRange.answers c.args.range.now)));
+      by_rule = λ l k. called_by (ap (λ m. message_of m (length c.args.trades.now)) c.in-End.is) refl (on_table c.args.trades.now (c.end.ensures.by_rule l k (g.R.PriceRange.answers c.args.range.now)));
     }

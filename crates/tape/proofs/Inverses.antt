@@ -1,5 +1,5 @@
 -- The set-up and the messages are read back from their bytes, and from no others.
-use Rattle.std.proofs.Common.{◌≡◌, ℕ, suc, ◌+◌, ◌<◌, List, [], ◌∷◌, ◌++◌, length, get_or, Some, None, Ok, Err, Option, Result, sym, refl, ap, ◌∙◌, subst, append_assoc, not-suc-le-zero, arith, lit<}
+use Rattle.std.proofs.Common.{◌≡◌, ℕ, suc, ◌<◌, List, [], ◌∷◌, ◌++◌, length, get_or, Some, None, Ok, Err, Option, Result, sym, refl, ap, ◌∙◌, subst, append_assoc, not-suc-le-zero, arith, lit<}
 use Rattle.std.specs.List.{flat_map}
 use Rattle.terms.proofs.Cases.{case_value}
 use Rattle.terms.proofs.Setups.{places, places_all, refused, setup_back}

@@ -1,5 +1,5 @@
 -- The printed lines, read back.
-use Rattle.std.proofs.Common.{◌≡◌, ℕ, zero, suc, ◌+◌, ◌-◌, ◌^◌, ◌<◌, ◌≤◌, Bool, true, false, cond, not, ◌&&◌, eqb, ltb, List, [], ◌∷◌, ◌++◌, map, length, get_or, take, drop, Some, None, Ok, Err, codes, decimal, Option, Result, sym, refl, ap, ◌∙◌, subst, ⊎_elim, arith, length-append}
+use Rattle.std.proofs.Common.{◌≡◌, ℕ, zero, suc, ◌+◌, ◌-◌, ◌^◌, ◌<◌, ◌≤◌, Bool, true, not, ◌&&◌, eqb, ltb, List, [], ◌∷◌, ◌++◌, map, length, get_or, take, drop, Some, None, Ok, Err, codes, decimal, Option, Result, sym, refl, ap, ◌∙◌, subst, ⊎_elim, arith, length-append}
 use Rattle.std.proofs.lemmas.Fmt.{decimal_is_IsNumeral}
 use Rattle.std.proofs.lemmas.Bool.{cases_Bool, cond-true, cond-false, and_parts, both_ways, not-true, eq-eqb, le-ltb}
 use Rattle.std.specs.Str.Parse.{digits_value}
@@ -21,9 +21,9 @@ use Rattle.tape.proofs.Words.{Clean, clean_decimal, clean_decimals, line_back}
 use Rattle.tape.specs.Lines.{Word, line, lines_of}
 use Rattle.tape.specs.Messages.{message_from, read_message}
 use Rattle.tape.specs.Numbers.{Encodable}
-use Rattle.tape.specs.Readings.{Placed, Reading, ends, going, read_on, read_all, Covers}
+use Rattle.tape.specs.Readings.{Placed, Reading, going, read_on, read_all, Covers}
 use Rattle.tape.specs.Setups.{read_setup, encoded_setup}
-use Rattle.tape_dump.specs.Dumps.{setup_words, message_words, stop_words, count_words, end_lines, reading_lines, behind_setup, setup_lines, setup_of, reading_of, dump_lines, dumped, entry_with, entry_of}
+use Rattle.tape_dump.specs.Dumps.{setup_words, message_words, stop_words, count_words, end_lines, reading_lines, behind_setup, setup_lines, setup_of, reading_of, dumped, entry_with, entry_of}
 
 abbrev Wide : List ℕ → Type 0
 Wide = All (λ n. n < 2 ^ 64)

@@ -1,4 +1,6 @@
 // Reads a message tape from standard input and prints what stands on it, a line a message.
+#![tactic(auto)]
+
 mod dump;
 mod text;
 

@@ -1,4 +1,6 @@
 // Examples of the tape's functions, run as tests.
+#![tactic(auto)]
+
 #[cfg(test)]
 mod tests {
     use std::test::Fail;

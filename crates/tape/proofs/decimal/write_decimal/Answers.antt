@@ -1,6 +1,5 @@
 use Rattle.std.proofs.Common.{◌≡◌, ◌+◌, ◌-◌, ◌≤◌, length, decimal, sym, ap, ◌∙◌, subst, arith, rules}
-use Rattle.std.proofs.lemmas.Bool.{cond-true, le-leb}
-use Rattle.tape.specs.Text.{put, has_room, Spelled}
+use Rattle.tape.specs.Text.{put, Spelled}
 use Rattle.tape.proofs.Decimals.{put_spelled}
 use Rattle.tape.proofs.decimal.write_decimal.Goals as goal
 

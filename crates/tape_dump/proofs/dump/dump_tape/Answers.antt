@@ -1,4 +1,4 @@
-use Rattle.std.proofs.Common.{◌≡◌, ℕ, ◌-◌, ◌≤◌, List, ◌++◌, map, length, take, drop, Some, Ok, Err, vec_items, sym, refl, ap, ◌∙◌, arith, length-append, rules}
+use Rattle.std.proofs.Common.{◌-◌, ◌++◌, map, length, take, drop, Some, Ok, Err, refl, ap, ◌∙◌, arith, length-append, rules}
 use Rattle.std.specs.List.{flat_map}
 use Rattle.tape.specs.Lines.{line, lines_of}
 use Rattle.tape.specs.Readings.{read_all, ends}
@@ -13,16 +13,16 @@ overflow_sub-tape c =
     let long = ap length h.1 ∙ length-append (encoded_setup c.in-Ok.setup) c.in-Ok.rest.now in
     omega arith
 
-pub returns-in_ok-push_messages : goal.returns-in_ok-push_messages
-returns-in_ok-push_messages c =
+pub returns-in_ok-push_messages-in-Ok : goal.returns-in_ok-push_messages-in-Ok
+returns-in_ok-push_messages-in-Ok c =
     let tape = c.args.tape.now in
     let s = c.in-Ok.setup in
     let rest = c.in-Ok.rest.now in
     let lines = flat_map line (reading_lines (read_all (length tape - length rest) rest)) in
     let prints =
-    c.in_ok-push_messages.ensures
-    ∙ ap (λ bs. bs ++ lines) (c.in_ok-push_setup.ensures ∙ ap (λ bs. bs ++ line (setup_words s)) c.new-text.ensures.items)
-    ∙ dumped_read tape (Ok (s, rest)) c.if-tape-gt-TAPE-MAX.false c.in-Ok.ensures.reads in
+    c.in_ok-push_messages-in-Ok.ensures
+    ∙ ap (λ bs. bs ++ lines) (c.in_ok-push_setup-in-Ok.ensures ∙ ap (λ bs. bs ++ line (setup_words s)) c.new-text.ensures.items)
+    ∙ dumped_read tape (Ok (s, rest)) c.if-tape-gt-TAPE_MAX.false c.in-Ok.ensures.reads in
     record {
       prints = prints;
       covers = dump_covers tape (λ i. omega (arith, c.type_inv.tape i));
@@ -31,14 +31,14 @@ returns-in_ok-push_messages c =
           ∙ dump_back tape (λ i. omega (arith, c.type_inv.tape i)) (omega arith);
     }
 
-pub returns-in_ok-push_refused-2 : goal.returns-in_ok-push_refused-2
-returns-in_ok-push_refused-2 c =
+pub returns-in_ok-push_refused-in-Err : goal.returns-in_ok-push_refused-in-Err
+returns-in_ok-push_refused-in-Err c =
     let tape = c.args.tape.now in
     let e = c.in-Err.refusal in
     let prints =
-    c.in_ok-push_refused-2.ensures
+    c.in_ok-push_refused-in-Err.ensures
     ∙ ap (λ bs. bs ++ flat_map line (reading_lines (ends 0 (Some e)))) c.new-text.ensures.items
-    ∙ dumped_read tape (Err e) c.if-tape-gt-TAPE-MAX.false c.in-Err.ensures.reads in
+    ∙ dumped_read tape (Err e) c.if-tape-gt-TAPE_MAX.false c.in-Err.ensures.reads in
     record {
       prints = prints;
       covers = dump_covers tape (λ i. omega (arith, c.type_inv.tape i));
@@ -47,8 +47,8 @@ returns-in_ok-push_refused-2 c =
           ∙ dump_back tape (λ i. omega (arith, c.type_inv.tape i)) (omega arith);
     }
 
-pub returns-then-tape-gt-TAPE-MAX : goal.returns-then-tape-gt-TAPE-MAX
-returns-then-tape-gt-TAPE-MAX c =
+pub returns-then-tape-gt-TAPE_MAX : goal.returns-then-tape-gt-TAPE_MAX
+returns-then-tape-gt-TAPE_MAX c =
     record {
       prints = search rules;
       covers = dump_covers c.args.tape.now (λ i. omega (arith, c.type_inv.tape i));

@@ -1,8 +1,8 @@
-use Rattle.std.proofs.Common.{◌++◌, Some, vec_items, sym, ap, ◌∙◌, append_assoc}
+use Rattle.std.proofs.Common.{◌++◌, vec_items, sym, ap, ◌∙◌, append_assoc}
 use Rattle.std.proofs.lemmas.Result.{IfOk-weaker}
 use Rattle.tape.specs.Lines.{line}
 use Rattle.tape_dump.specs.Dumps.{stop_words, count_words}
-use Rattle.tape_dump.proofs.Lines.{lines_refused, lines_none}
+use Rattle.tape_dump.proofs.Lines.{lines_refused}
 use Rattle.tape_dump.proofs.dump.push_refused.Goals as goal
 
 pub returns : goal.returns

@@ -1,4 +1,4 @@
-use Rattle.std.proofs.Common.{cond, ◌++◌, is_ok, vec_items, decimal, sym, ap, ◌∙◌, arith}
+use Rattle.std.proofs.Common.{cond, ◌++◌, is_ok, vec_items, decimal, ap, ◌∙◌, arith}
 use Rattle.tape_dump.proofs.Pushes.{made_by, never_none, digits_part}
 use Rattle.tape_dump.proofs.text.push_decimal.Goals as goal
 

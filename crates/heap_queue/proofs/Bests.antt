@@ -1,12 +1,11 @@
 -- The best so far, as a loop goes up.
-use Rattle.std.proofs.Common.{◌≡◌, ℕ, zero, suc, ◌+◌, ◌<◌, Bool, true, false, cond, not, ◌||◌, eqb, ◌⊎◌, List, [], ◌∷◌, ◌++◌, length, get_or, take, Some, None, Option, sym, refl, ap, ◌∙◌, subst, inl, inr}
+use Rattle.std.proofs.Common.{◌≡◌, ℕ, zero, suc, ◌+◌, ◌<◌, Bool, true, false, cond, not, eqb, List, [], ◌∷◌, ◌++◌, length, get_or, take, Some, sym, refl, ap, ◌∙◌, subst, inl, inr}
 use Rattle.std.proofs.lemmas.List.{take_more}
 use Rattle.std.proofs.lemmas.Bool.{cases_Bool, both_ways, or_parts, or_from, eqb-false}
 use Rattle.queue.specs.Held.{Sorted, Apart, any, is, insert, first}
 use Rattle.std.specs.List.{AllByRecursion as All}
 use Rattle.queue.proofs.Inserts.{all_map, other}
 use Rattle.queue.specs.Rank.{ExactlyOne}
-use Rattle.queue.specs.Through.{SameElements}
 use Rattle.heap_queue.specs.Heaps.{ranked, better}
 use Rattle.heap_queue.proofs.Perms.{perm_last, perm_sym, perm_apart, ranked_perm}
 use Rattle.heap_queue.proofs.Ranks.{any-ranked, sorted_ranked, first_no}

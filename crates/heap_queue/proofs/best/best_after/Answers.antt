@@ -1,4 +1,4 @@
-use Rattle.std.proofs.Common.{◌≡◌, Some, sym, refl, ap, ◌∙◌, take_all}
+use Rattle.std.proofs.Common.{Some, sym, ap, ◌∙◌, take_all}
 use Rattle.queue.specs.Held.{first}
 use Rattle.heap_queue.specs.Heaps.{ranked, better}
 use Rattle.heap_queue.proofs.Bests.{best_less, best_more}

@@ -1,4 +1,5 @@
 // Plays a short day on both kinds of queue.
+#![tactic(auto)]
 
 mod client;
 

@@ -12,8 +12,7 @@ use orders::order::BuyOrder;
 use queue::Queue;
 use queue::through::rank_through;
 use sorted_queue::SortedQueue;
-use std::alloc::Global;
-use std::fmt;
+use std::alloc::{AllocError, Global};
 use terms::refusal::Refusal;
 
 // The sample in rank order, by way of any kind of queue, which is left as it was.
@@ -28,7 +27,7 @@ fn rank_sample<Q: Queue<BuyOrder>>(q: &mut Q) -> Result<[BuyOrder; 5], Refusal>
 }
 
 // What both kinds of queue make of the sample, as text. It fails only for want of memory.
-pub fn demo_text(heap: Global) -> Result<String, fmt::Error>
+pub fn demo_text(heap: Global) -> Result<String, AllocError>
     ensures prints { IfOk result (λ text. string_bytes text ≡ printed) }
     ensures lines { IfOk result (λ text. string_bytes text ≡ printed_lines) }
 {

@@ -1,4 +1,6 @@
 // Puts the same orders through both kinds of queue and prints them in rank order, with the lots at each price.
+#![tactic(auto)]
+
 mod demo;
 mod levels;
 mod report;

@@ -4,17 +4,17 @@ ghost use Rattle.queue_demo.specs.Reports.{price_line, order_line, report};
 
 use crate::levels::lots_at;
 use orders::order::{BuyOrder, Order};
-use std::fmt;
+use std::alloc::AllocError;
 
 // The line of a price.
-fn push_price(text: &mut String, price: u32, lots: u128) -> fmt::Result
+fn push_price(text: &mut String, price: u32, lots: u128) -> Result<(), AllocError>
     ensures { OnOk result (string_bytes text.new ≡ string_bytes text.old ++ price_line price lots) }
 {
     writeln!(text, "{price}: {lots} lots")
 }
 
 // The line of an order.
-fn push_order(text: &mut String, o: &BuyOrder) -> fmt::Result
+fn push_order(text: &mut String, o: &BuyOrder) -> Result<(), AllocError>
     ensures { OnOk result (string_bytes text.new ≡ string_bytes text.old ++ order_line o.now) }
 {
     let Order { number, lots, .. } = o.0;
@@ -22,7 +22,7 @@ fn push_order(text: &mut String, o: &BuyOrder) -> fmt::Result
 }
 
 // A title, and the lines of the orders below it.
-pub fn push_report(text: &mut String, title: &str, orders: &[BuyOrder]) -> fmt::Result
+pub fn push_report(text: &mut String, title: &str, orders: &[BuyOrder]) -> Result<(), AllocError>
     ensures { OnOk result (string_bytes text.new ≡ string_bytes text.old ++ report title.now orders.now) }
 {
     writeln!(text, "{title}")?;

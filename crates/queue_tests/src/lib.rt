@@ -1,3 +1,5 @@
+#![tactic(auto)]
+
 // Examples of the queues and the price ranges, run as tests on every kind.
 #[cfg(test)]
 mod queues;

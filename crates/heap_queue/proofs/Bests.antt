@@ -3,7 +3,7 @@ use Rattle.std.proofs.Common.{◌≡◌, ℕ, zero, suc, ◌+◌, ◌<◌, Bool,
 use Rattle.std.proofs.lemmas.List.{take_more}
 use Rattle.std.proofs.lemmas.Bool.{cases_Bool, both_ways, or_parts, or_from, eqb-false}
 use Rattle.queue.specs.Held.{Sorted, Apart, any, is, insert, first}
-use Rattle.std.specs.List.{AllByRecursion as All}
+use Rattle.std.specs.List.{AllByRecursion}
 use Rattle.queue.proofs.Inserts.{all_map, other}
 use Rattle.queue.specs.Rank.{ExactlyOne}
 use Rattle.heap_queue.specs.Heaps.{ranked, better}
@@ -31,7 +31,7 @@ module _
     one_way : (x y : E) → b x y ≡ true → b y x ≡ false
     one_way x y h = elim (cases_Bool (b y x)) [ inl t ↦ absurd (both_ways (b x x) (irreflexive x) (transitive x y x h t)) | inr t ↦ t ]
 
-    stays : (q : E → Bool) (x : E) (ws : List E) → All (λ y. b y x ≡ false) ws → better b (first q ws) x ≡ x
+    stays : (q : E → Bool) (x : E) (ws : List E) → AllByRecursion (λ y. b y x ≡ false) ws → better b (first q ws) x ≡ x
     stays q x [] h = refl
     stays q x (w ∷ ws) h = let r = stays q x ws h.1 in elim (q w) as (λ t. better b (cond t (Some w) (first q ws)) x ≡ x) [ true ↦ rw h.0 | false ↦ r ]
 

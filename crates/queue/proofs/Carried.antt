@@ -1,6 +1,6 @@
 -- What a map that keeps number, key, lots and rank does to what a queue holds.
 use Rattle.std.proofs.Common.{◌≡◌, ℕ, suc, ◌-◌, ◌<◌, ◌≤◌, Bool, true, false, cond, eqb, List, [], ◌∷◌, map, length, Some, None, Option, sym, refl, ap, ◌∙◌, subst}
-use Rattle.std.specs.List.{AllByRecursion as All}
+use Rattle.std.specs.List.{AllByRecursion}
 use Rattle.terms.specs.declared.refusal.Refusal.{Refusal}
 use Rattle.queue.specs.Held.{Held, Sorted, Apart, Sound, head, first, any, insert, remove, is, clash, excepted, takes, barred, uncut, unless, cutting, numbered, after_put, after_cut, after_take}
 use Rattle.queue.specs.Carries.{Carries, map_some, map_held}
@@ -87,7 +87,7 @@ module _ {E F : Type 0} (f : E → F) (r : Rank E) (q : Rank F) (c : Carries f r
   pub map-take : (h : Held E) (n : ℕ) → map_held f (after_take r h n) ≡ after_take q (map_held f h) n
   map-take h n = λ i. record { capacity = h.capacity; elements = map-remove n h.elements i }
 
-  map-all : (P : E → Type 0) (Q : F → Type 0) → ((x : E) → P x → Q (f x)) → (xs : List E) → All P xs → All Q (map f xs)
+  map-all : (P : E → Type 0) (Q : F → Type 0) → ((x : E) → P x → Q (f x)) → (xs : List E) → AllByRecursion P xs → AllByRecursion Q (map f xs)
   map-all P Q g [] a = tt
   map-all P Q g (x ∷ xs) a = (g x a.0, map-all P Q g xs a.1)
 

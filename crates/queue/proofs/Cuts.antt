@@ -1,7 +1,7 @@
 -- `change` and `cutting`: where they write, and what they keep.
 use Rattle.std.proofs.Common.{◌≡◌, ℕ, suc, ◌-◌, ◌<◌, Bool, true, false, cond, ◌||◌, eqb, leb, List, [], ◌∷◌, get_or, set, Some, None, Option, sym, refl, ap, ◌∙◌, arith}
 use Rattle.std.proofs.lemmas.Bool.{cond_both, eq-eqb, ne_eqb, and_parts, leb-true}
-use Rattle.std.specs.List.{AllByRecursion as All}
+use Rattle.std.specs.List.{AllByRecursion}
 use Rattle.terms.specs.declared.refusal.Refusal.TheVariants.{BadCut}
 use Rattle.queue.specs.Held.{Ordered, Sorted, Apart, first, place, any, is, remove, change, cutting, cuttable, uncut}
 use Rattle.queue.specs.Rank.{Rank, OnlyLots}
@@ -16,9 +16,9 @@ module _ {E : Type 0} (p : E → Bool) where
         elim (p x) as (λ t. cond t (f x ∷ xs) (x ∷ change p f xs) ≡ set (x ∷ xs) (cond t 0 (suc (place p xs))) (f (get_or (x ∷ xs) (cond t 0 (suc (place p xs))) d)))
         [ true ↦ refl | false ↦ ap (λ ys. x ∷ ys) r ]
 
-    all-change : (P : E → Type 0) → ((x : E) → P x → P (f x)) → (xs : List E) → All P xs → All P (change p f xs)
+    all-change : (P : E → Type 0) → ((x : E) → P x → P (f x)) → (xs : List E) → AllByRecursion P xs → AllByRecursion P (change p f xs)
     all-change P k [] h = tt
-    all-change P k (x ∷ xs) h = cond_both (p x) _ _ (All P) (λ _. (k x h.0, h.1)) (λ _. (h.0, all-change P k xs h.1))
+    all-change P k (x ∷ xs) h = cond_both (p x) _ _ (AllByRecursion P) (λ _. (k x h.0, h.1)) (λ _. (h.0, all-change P k xs h.1))
 
     any-change : (q : E → Bool) → ((x : E) → q (f x) ≡ q x) → (xs : List E) → any q (change p f xs) ≡ any q xs
     any-change q k [] = refl

@@ -1,7 +1,7 @@
 -- `remove`: where it takes out, and what it keeps.
 use Rattle.std.proofs.Common.{◌≡◌, ℕ, suc, ◌<◌, ◌≤◌, Bool, true, false, cond, List, [], ◌∷◌, length, refl, ap, le_of_suc-le-suc, not-suc-le-zero}
 use Rattle.std.proofs.lemmas.Bool.{cond_both, or_parts, or_from}
-use Rattle.std.specs.List.{remove as removed, AllByRecursion as All}
+use Rattle.std.specs.List.{remove as removed, AllByRecursion}
 use Rattle.queue.specs.Held.{Ordered, Sorted, Apart, place, any, is, remove}
 use Rattle.queue.specs.Rank.{Rank}
 
@@ -21,9 +21,9 @@ module _ {E : Type 0} (p : E → Bool) where
       go true f l = absurd (not-suc-le-zero l)
       go false f l = ap (λ ys. x ∷ ys) (f (le_of_suc-le-suc l))
 
-  pub all_remove : (P : E → Type 0) (xs : List E) → All P xs → All P (remove p xs)
+  pub all_remove : (P : E → Type 0) (xs : List E) → AllByRecursion P xs → AllByRecursion P (remove p xs)
   all_remove P [] h = tt
-  all_remove P (x ∷ xs) h = cond_both (p x) _ _ (All P) (λ _. h.1) (λ _. (h.0, all_remove P xs h.1))
+  all_remove P (x ∷ xs) h = cond_both (p x) _ _ (AllByRecursion P) (λ _. h.1) (λ _. (h.0, all_remove P xs h.1))
 
   any-remove : (q : E → Bool) (xs : List E) → any q xs ≡ false → any q (remove p xs) ≡ false
   any-remove q [] h = refl

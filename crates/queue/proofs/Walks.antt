@@ -1,7 +1,7 @@
 -- A walk through a sorted list, from each element to the first that ranks after it.
 use Rattle.std.proofs.Common.{◌≡◌, ℕ, zero, suc, ◌+◌, Bool, true, false, List, [], ◌∷◌, drop, Some, sym, refl, ap, ◌∙◌, subst, arith}
 use Rattle.std.proofs.lemmas.Bool.{cond-false, cond-true, true≢false}
-use Rattle.std.specs.List.{AllByRecursion as All}
+use Rattle.std.specs.List.{AllByRecursion}
 use Rattle.queue.specs.Held.{Sorted, head, first}
 
 module _
@@ -16,11 +16,11 @@ module _
         go true e = absurd (true≢false (sym (transitive x y x h e) ∙ irreflexive x))
         go false e = refl
 
-    all_after : (e : E) (xs : List E) → All (λ x. b e x ≡ true) xs → first (b e) xs ≡ head xs
+    all_after : (e : E) (xs : List E) → AllByRecursion (λ x. b e x ≡ true) xs → first (b e) xs ≡ head xs
     all_after e [] a = refl
     all_after e (x ∷ xs) a = cond-true (b e x) (Some x) (first (b e) xs) a.0
 
-    among : (P : E → Type 0) (xs : List E) (i : ℕ) (e : E) → Some e ≡ head (drop i xs) → All P xs → P e
+    among : (P : E → Type 0) (xs : List E) (i : ℕ) (e : E) → Some e ≡ head (drop i xs) → AllByRecursion P xs → P e
     among P [] zero e h a = let z : ◌≡◌ {A = ℕ} 0 1 = cc in absurd (omega arith)
     among P [] (suc i) e h a = let z : ◌≡◌ {A = ℕ} 0 1 = cc in absurd (omega arith)
     among P (x ∷ xs) zero e h a = let s : x ≡ e = cc in subst P s a.0

@@ -6,7 +6,7 @@
 --   answer, unless                what such a call answers and leaves
 --   numbered, after_put, after_cut, after_take   the element with a number, and what each call leaves
 use Rattle.std.specs.Prelude.{◌≡◌, ℕ, suc, ◌-◌, ◌<◌, ◌≤◌, Bool, true, false, cond, not, ◌&&◌, ◌||◌, List, [], ◌∷◌, length, Some, None, Ok, Err, Option, Result, ◌==◌, nat_le}
-use Rattle.std.specs.List.{AllByRecursion as All}
+use Rattle.std.specs.List.{AllByRecursion}
 use Rattle.terms.specs.declared.refusal.Refusal.{Refusal}
 use Rattle.terms.specs.declared.refusal.Refusal.TheVariants.{QueueFull, AlreadyHeld, BadCut}
 use Rattle.queue.specs.Rank.{Rank}
@@ -54,7 +54,7 @@ insert before e (f ∷ fs) = cond (before e f) (e ∷ (f ∷ fs)) (f ∷ insert 
 -- each element ranks before every later one
 abbrev pub Sorted : {E : Type 0} → (E → E → Bool) → List E → Type 0
 Sorted before [] = Unit {0}
-Sorted before (e ∷ es) = All (λ f. before e f ≡ true) es × Sorted before es
+Sorted before (e ∷ es) = AllByRecursion (λ f. before e f ≡ true) es × Sorted before es
 
 -- the test: f of an element is n
 abbrev pub is : {E : Type 0} → (E → ℕ) → ℕ → E → Bool
@@ -70,7 +70,7 @@ pub record Ordered {E : Type 0} (r : Rank E) (es : List E) : Type 0 where
   pub sorted : Sorted r.before es
   pub numbers : Apart r.number es
   pub keys : Apart r.key es
-  pub some : All (λ e. 0 < r.lots e) es
+  pub some : AllByRecursion (λ e. 0 < r.lots e) es
 
 -- and never more than the capacity
 pub record Sound {E : Type 0} (r : Rank E) (h : Held E) : Type 0 where

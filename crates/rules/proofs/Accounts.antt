@@ -1,7 +1,7 @@
 -- Each answer counts what its call has traded, left and cancelled.
 use Rattle.std.proofs.Common.{◌≡◌, ℕ, zero, suc, ◌+◌, ◌<◌, ◌≤◌, Bool, true, false, cond, eqb, ◌⊎◌, List, [], ◌∷◌, Some, Option, sym, refl, ap, ◌∙◌, inl, inr, arith}
 use Rattle.std.proofs.lemmas.Bool.{cases_eq, cases_lt, eqb-true, eqb-false}
-use Rattle.std.specs.List.{AllByRecursion as All}
+use Rattle.std.specs.List.{AllByRecursion}
 use Rattle.terms.specs.declared.side.Side.{Side}
 use Rattle.terms.specs.declared.side.Side.TheVariants.{Buy, Sell}
 use Rattle.terms.specs.declared.trade.Trade.{Trade}
@@ -47,7 +47,7 @@ below_at (suc top) n k h = go (cases_eq top n) (below_at top n k)
     go (inl e) f = omega (arith, below_none top n k (omega (arith, e)), ap (λ i. at n i k 0) e ∙ at_here n k 0)
     go (inr e) f = omega (arith, f (strictly h e), at_other {A = ℕ} n top k 0 e)
 
-pub below-under : (top : ℕ) (os : List Order) → All (λ o. o.number < top) os → below top (λ m. under m os) ≡ resting_lots os
+pub below-under : (top : ℕ) (os : List Order) → AllByRecursion (λ o. o.number < top) os → below top (λ m. under m os) ≡ resting_lots os
 below-under top [] a = none top
   where
     none : (n : ℕ) → below n (λ m. 0) ≡ 0

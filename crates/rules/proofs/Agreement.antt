@@ -2,7 +2,7 @@
 use Rattle.std.proofs.Common.{◌≡◌, ℕ, ◌+◌, ◌-◌, ◌<◌, Bool, true, false, cond, eqb, ◌⊎◌, List, [], ◌∷◌, Some, None, Option, sym, refl, ap, ◌∙◌, subst, inl, inr, arith}
 use Rattle.std.proofs.lemmas.Bool.{true≢false}
 use Rattle.std.proofs.lemmas.Bool.Decides.{nat_tests}
-use Rattle.std.specs.List.{AllByRecursion as All}
+use Rattle.std.specs.List.{AllByRecursion}
 use Rattle.terms.specs.declared.message.OrderCancel.{OrderCancel}
 use Rattle.terms.specs.declared.message.OrderChange.{OrderChange}
 use Rattle.terms.specs.declared.message.OrderEntry.{OrderEntry}
@@ -255,7 +255,7 @@ meet_none s i k (o ∷ os) = rw (cannot_meet s i.limit o.price) (go (eqb k 0))
     go false = refl
 
 -- it meets the other side, or, where its price does not improve, nothing
-entered-change : (u : Bool) (r : Option Band) {s : Side} {next : ℕ} {own opp : List Order} (o : Order) (l : Entries) → (u ≡ true) ⊎ All (λ p. can_meet r s o.price p.price ≡ false) opp → Coupled l s next own opp o.number o.lots → Known s next l o → Apart r s own opp → Absent o.number own → All (λ x. x.turn ≡ o.turn → ⊥) own → Absent o.number opp → EnteredWell r false s next l o.number (meeting.enter (cond u r None) false s o own opp)
+entered-change : (u : Bool) (r : Option Band) {s : Side} {next : ℕ} {own opp : List Order} (o : Order) (l : Entries) → (u ≡ true) ⊎ AllByRecursion (λ p. can_meet r s o.price p.price ≡ false) opp → Coupled l s next own opp o.number o.lots → Known s next l o → Apart r s own opp → Absent o.number own → AllByRecursion (λ x. x.turn ≡ o.turn → ⊥) own → Absent o.number opp → EnteredWell r false s next l o.number (meeting.enter (cond u r None) false s o own opp)
 entered-change true r o l h c k a x y z = entered_well r false o l c k a x y z
 entered-change false r o l (inl h) c k a x y z = absurd (true≢false (sym h))
 entered-change false r {s} {next} {own} {opp} o l (inr h) c k a x y z =
@@ -293,10 +293,10 @@ kept_change c k l b f h z t a =
     l₁ : Entries
     l₁ = replace n c.price b.next (resize n c.lots l)
 
-    meets : (is_trading b.phase ≡ true) ⊎ (improves s o.price c.price ≡ false) → (is_trading b.phase ≡ true) ⊎ All (λ p. can_meet (band b) s c.price p.price ≡ false) (on (other s) b).elements
+    meets : (is_trading b.phase ≡ true) ⊎ (improves s o.price c.price ≡ false) → (is_trading b.phase ≡ true) ⊎ AllByRecursion (λ p. can_meet (band b) s c.price p.price ≡ false) (on (other s) b).elements
     meets (inl e) = inl e
     meets (inr e) =
-        inr (all_map (λ p u. apart_lower (band b) s o.price c.price p.price (not_better s o.price c.price e) u) (on (other s) b).elements (found-is (λ x. All (λ p. can_meet (band b) s x.price p.price ≡ false) (on (other s) b).elements) n (on s b).elements o here apart).1)
+        inr (all_map (λ p u. apart_lower (band b) s o.price c.price p.price (not_better s o.price c.price e) u) (on (other s) b).elements (found-is (λ x. AllByRecursion (λ p. can_meet (band b) s x.price p.price ≡ false) (on (other s) b).elements) n (on s b).elements o here apart).1)
 
     w : EnteredWell (band b) false s (b.next + 1) l₁ n (change_entered c f b)
     w =

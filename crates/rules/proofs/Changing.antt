@@ -2,7 +2,7 @@
 use Rattle.std.proofs.Common.{◌≡◌, ℕ, ◌+◌, ◌-◌, ◌<◌, ◌≤◌, Bool, true, false, cond, not, ◌&&◌, ◌||◌, eqb, ◌⊎◌, List, [], ◌∷◌, length, take, Some, None, Option, sym, refl, ap, ◌∙◌, subst, inl, inr, arith}
 use Rattle.std.proofs.lemmas.Bool.{cases_eq, cond_both, or_parts, or_from, ne_eqb, le-leb}
 use Rattle.std.proofs.lemmas.Bool.Decides.{nat_tests}
-use Rattle.std.specs.List.{AllByRecursion as All}
+use Rattle.std.specs.List.{AllByRecursion}
 use Rattle.terms.specs.declared.message.OrderChange.{OrderChange}
 use Rattle.terms.specs.declared.side.Side.{Side}
 use Rattle.terms.specs.declared.side.Side.TheVariants.{Buy, Sell}
@@ -120,7 +120,7 @@ module _ (c : OrderChange) (k : ℕ) (f : Found) (b : Book) (passes : first_of (
         let n : f.order.number ≡ c.order = (found-is (λ x. Unit {0}) c.order (on f.side b).elements f.order rests (all_unit (on f.side b).elements)).0 in
         ap (λ m. taken f.side b.next (Some m) b) (sym n) ∙ subst (λ v. (not v && taken f.side b.next (Some f.order.number) b) ≡ false) moves u
       where
-        all_unit : (os : List Order) → All (λ x. Unit {0}) os
+        all_unit : (os : List Order) → AllByRecursion (λ x. Unit {0}) os
         all_unit [] = tt
         all_unit (x ∷ xs) = (tt, all_unit xs)
 

@@ -2,7 +2,7 @@
 use Rattle.std.proofs.Common.{◌≡◌, ℕ, ◌+◌, ◌-◌, ◌<◌, ◌≤◌, Bool, true, false, cond, eqb, ltb, ◌⊎◌, List, [], ◌∷◌, Option, sym, refl, ap, ◌∙◌, subst, inl, inr, arith}
 use Rattle.std.proofs.lemmas.Bool.{cases_eq, eqb-true, ne_eqb, or_from}
 use Rattle.std.proofs.lemmas.Bool.Decides.{nat_tests}
-use Rattle.std.specs.List.{AllByRecursion as All}
+use Rattle.std.specs.List.{AllByRecursion}
 use Rattle.terms.specs.declared.side.Side.{Side}
 use Rattle.terms.specs.declared.side.Side.TheVariants.{Buy, Sell}
 use Rattle.terms.specs.declared.trade.Trade.{Trade}
@@ -39,8 +39,8 @@ pub record Known (s : Side) (next : ℕ) (l : Entries) (o : Order) : Type 0 wher
 pub record Coupled (l : Entries) (s : Side) (next : ℕ) (own opp : List Order) (n k : ℕ) : Type 0 where
   pub conserved : (m : ℕ) → (l m).entered ≡ (l m).traded + (l m).cancelled + (under m own + under m opp) + at n m k 0
   pub fresh : (m : ℕ) → next ≤ m → (l m).entered ≡ 0
-  pub owns : All (Known s next l) own
-  pub opps : All (Known (other s) next l) opp
+  pub owns : AllByRecursion (Known s next l) own
+  pub opps : AllByRecursion (Known (other s) next l) opp
   pub own_ordered : Ordered (rank_of s) own
   pub opp_ordered : Ordered (rank_of (other s)) opp
 
@@ -62,10 +62,10 @@ pub ordered_lots : (s : Side) {o : Order} {os : List Order} (k : ℕ) → 0 < k 
 ordered_lots Buy k z h = record { sorted = h.sorted; numbers = h.numbers; keys = h.keys; some = (z, h.some.1) }
 ordered_lots Sell k z h = record { sorted = h.sorted; numbers = h.numbers; keys = h.keys; some = (z, h.some.1) }
 
-pub ordered-joined : (s : Side) (o : Order) (os : List Order) → 0 < o.lots → All (λ x. (x.number ≡ o.number → ⊥) × (x.turn ≡ o.turn → ⊥)) os → Ordered (rank_of s) os → Ordered (rank_of s) (insert (before s) o os)
+pub ordered-joined : (s : Side) (o : Order) (os : List Order) → 0 < o.lots → AllByRecursion (λ x. (x.number ≡ o.number → ⊥) × (x.turn ≡ o.turn → ⊥)) os → Ordered (rank_of s) os → Ordered (rank_of s) (insert (before s) o os)
 ordered-joined s o os z a h = ordered-insert (rank_of s) (before_transitive s) (before_connected s) os o (λ e. omega arith) (clear os a) h
   where
-    clear : (xs : List Order) → All (λ x. (x.number ≡ o.number → ⊥) × (x.turn ≡ o.turn → ⊥)) xs → any (clash (rank_of s) o) xs ≡ false
+    clear : (xs : List Order) → AllByRecursion (λ x. (x.number ≡ o.number → ⊥) × (x.turn ≡ o.turn → ⊥)) xs → any (clash (rank_of s) o) xs ≡ false
     clear [] b = refl
     clear (x ∷ xs) b =
         or_from _ _ (or_from _ _ (ne_eqb x.number o.number b.0.0) (ne_eqb x.turn o.turn b.0.1)) (clear xs b.1)
@@ -138,22 +138,22 @@ meeting r {s} {next} {own} i k (o ∷ os) l c = go (step_is r s i.limit k o) (me
     go (is_whole e a h) f = f _ (coupled_whole r i c h)
 
 -- lots that are left cannot meet what is left of the other side
-pub spent : (r : Option Band) (s : Side) (i : Incoming) (k : ℕ) (os : List Order) → Ordered (rank_of (other s)) os → 0 < (meet r s i k os).left → All (λ o. can_meet r s i.limit o.price ≡ false) (meet r s i k os).rest
+pub spent : (r : Option Band) (s : Side) (i : Incoming) (k : ℕ) (os : List Order) → Ordered (rank_of (other s)) os → 0 < (meet r s i k os).left → AllByRecursion (λ o. can_meet r s i.limit o.price ≡ false) (meet r s i k os).rest
 spent r s i k [] d h = tt
 spent r s i k (o ∷ os) d h = go (step_is r s i.limit k o) (spent r s i (k - o.lots) os (ordered_tail (other s) d)) h
   where
-    go : {w : Step} → StepIs r s i.limit k o w → (0 < (meet r s i (k - o.lots) os).left → All (λ x. can_meet r s i.limit x.price ≡ false) (meet r s i (k - o.lots) os).rest) → 0 < (stepped w r s i k o os (meet r s i (k - o.lots) os)).left → All (λ x. can_meet r s i.limit x.price ≡ false) (stepped w r s i k o os (meet r s i (k - o.lots) os)).rest
+    go : {w : Step} → StepIs r s i.limit k o w → (0 < (meet r s i (k - o.lots) os).left → AllByRecursion (λ x. can_meet r s i.limit x.price ≡ false) (meet r s i (k - o.lots) os).rest) → 0 < (stepped w r s i k o os (meet r s i (k - o.lots) os)).left → AllByRecursion (λ x. can_meet r s i.limit x.price ≡ false) (stepped w r s i k o os (meet r s i (k - o.lots) os)).rest
     go (is_done e) f g = absurd (omega arith)
     go (is_apart e a) f g = (a, all_map (λ x b. apart_later r s i.limit o x a b) os d.sorted.0)
     go (is_part e a b) f g = absurd (omega arith)
     go (is_whole e a b) f g = f g
 
 -- what does not speak of lots stays true of the other side
-pub all_met : (P : Order → Type 0) → ((o : Order) (k : ℕ) → P o → P (with_lots o k)) → (r : Option Band) (s : Side) (i : Incoming) (k : ℕ) (os : List Order) → All P os → All P (meet r s i k os).rest
+pub all_met : (P : Order → Type 0) → ((o : Order) (k : ℕ) → P o → P (with_lots o k)) → (r : Option Band) (s : Side) (i : Incoming) (k : ℕ) (os : List Order) → AllByRecursion P os → AllByRecursion P (meet r s i k os).rest
 all_met P f r s i k [] a = tt
 all_met P f r s i k (o ∷ os) a = go (step r s i.limit k o) (all_met P f r s i (k - o.lots) os a.1)
   where
-    go : (w : Step) → All P (meet r s i (k - o.lots) os).rest → All P (stepped w r s i k o os (meet r s i (k - o.lots) os)).rest
+    go : (w : Step) → AllByRecursion P (meet r s i (k - o.lots) os).rest → AllByRecursion P (stepped w r s i k o os (meet r s i (k - o.lots) os)).rest
     go stop g = a
     go part g = (f o _ a.0, a.1)
     go whole g = g
@@ -183,11 +183,11 @@ turned {s = Sell} c =
     record { conserved = λ m. omega (arith, c.conserved m); fresh = c.fresh; owns = c.opps; opps = c.owns; own_ordered = c.opp_ordered; opp_ordered = c.own_ordered }
 
 -- no order of the other side has a number that is known on this one
-pub absent_opposite : (l : Entries) (s : Side) (next n : ℕ) (opp : List Order) → (l n).side ≡ s → All (Known (other s) next l) opp → Absent n opp
+pub absent_opposite : (l : Entries) (s : Side) (next n : ℕ) (opp : List Order) → (l n).side ≡ s → AllByRecursion (Known (other s) next l) opp → Absent n opp
 absent_opposite l s next n opp e a = all_map (λ o k q. two_sides s (sym e ∙ ap (λ m. (l m).side) (sym q) ∙ k.same.side)) opp a
 
 -- an order in hand takes its place
-pub coupled_placed : {l : Entries} {s : Side} {next : ℕ} {own opp : List Order} (o : Order) → Coupled l s next own opp o.number o.lots → Known s next l o → Absent o.number own → All (λ x. x.turn ≡ o.turn → ⊥) own → 0 < o.lots → Coupled l s next (insert (before s) o own) opp 0 0
+pub coupled_placed : {l : Entries} {s : Side} {next : ℕ} {own opp : List Order} (o : Order) → Coupled l s next own opp o.number o.lots → Known s next l o → Absent o.number own → AllByRecursion (λ x. x.turn ≡ o.turn → ⊥) own → 0 < o.lots → Coupled l s next (insert (before s) o own) opp 0 0
 coupled_placed {l} {s} {next} {own} {opp} o c e a b z =
     record {
       conserved = λ m. omega (arith, c.conserved m, under-insert (before s) m o own, at_zero 0 m);
@@ -199,7 +199,7 @@ coupled_placed {l} {s} {next} {own} {opp} o c e a b z =
     }
 
 -- the remainder of an order joins its side
-pub coupled_joined : {l : Entries} {s : Side} {next : ℕ} {own opp : List Order} (o : Order) → Coupled l s next own opp o.number o.lots → Known s next l o → Absent o.number own → All (λ x. x.turn ≡ o.turn → ⊥) own → Coupled l s next (joined s o own) opp 0 0
+pub coupled_joined : {l : Entries} {s : Side} {next : ℕ} {own opp : List Order} (o : Order) → Coupled l s next own opp o.number o.lots → Known s next l o → Absent o.number own → AllByRecursion (λ x. x.turn ≡ o.turn → ⊥) own → Coupled l s next (joined s o own) opp 0 0
 coupled_joined {l} {s} {next} {own} {opp} o c e a b = go (eqb o.lots 0) refl
   where
     go : (t : Bool) → eqb o.lots 0 ≡ t → Coupled l s next (cond t own (insert (before s) o own)) opp 0 0

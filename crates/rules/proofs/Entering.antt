@@ -2,7 +2,7 @@
 use Rattle.std.proofs.Common.{◌≡◌, ℕ, ◌<◌, Bool, true, false, cond, eqb, List, [], ◌∷◌, Option, sym, refl, subst, arith}
 use Rattle.std.proofs.lemmas.Bool.{eqb-true}
 use Rattle.std.proofs.lemmas.Bool.Decides.{nat_tests}
-use Rattle.std.specs.List.{AllByRecursion as All}
+use Rattle.std.specs.List.{AllByRecursion}
 use Rattle.terms.specs.declared.side.Side.{Side}
 use Rattle.terms.specs.declared.side.Side.TheVariants.{Buy, Sell}
 use Rattle.queue.specs.Held.{Ordered, insert, remove, change}
@@ -23,13 +23,13 @@ use Rattle.rules.proofs.Priorities.{not_ahead, apart_worse, not_behind}
 
 -- no two of the sides can meet
 abbrev pub Apart : Option Band → Side → List Order → List Order → Type 0
-Apart r s own opp = All (λ o. All (λ p. can_meet r s o.price p.price ≡ false) opp) own
+Apart r s own opp = AllByRecursion (λ o. AllByRecursion (λ p. can_meet r s o.price p.price ≡ false) opp) own
 
-all_none : (R : Order → Order → Type 0) (os : List Order) → All (λ p. All (λ o. R o p) []) os
+all_none : (R : Order → Order → Type 0) (os : List Order) → AllByRecursion (λ p. AllByRecursion (λ o. R o p) []) os
 all_none R [] = tt
 all_none R (o ∷ os) = (tt, all_none R os)
 
-pub all_swap : (R : Order → Order → Type 0) (os ps : List Order) → All (λ o. All (λ p. R o p) ps) os → All (λ p. All (λ o. R o p) os) ps
+pub all_swap : (R : Order → Order → Type 0) (os ps : List Order) → AllByRecursion (λ o. AllByRecursion (λ p. R o p) ps) os → AllByRecursion (λ p. AllByRecursion (λ o. R o p) os) ps
 all_swap R [] ps a = all_none R ps
 all_swap R (o ∷ os) ps a = all_both (λ p x y. (x, y)) ps a.0 (all_swap R os ps a.1)
 
@@ -38,10 +38,10 @@ apart_turned r Buy own opp a = all_swap (λ o p. can_meet r Buy o.price p.price 
 apart_turned r Sell own opp a = all_swap (λ o p. can_meet r Sell o.price p.price ≡ false) own opp a
 
 pub apart_removed : (r : Option Band) (s : Side) (n : ℕ) (own opp : List Order) → Apart r s own opp → Apart r s (remove (number_is n) own) opp
-apart_removed r s n own opp a = all_remove (number_is n) (λ o. All (λ p. can_meet r s o.price p.price ≡ false) opp) own a
+apart_removed r s n own opp a = all_remove (number_is n) (λ o. AllByRecursion (λ p. can_meet r s o.price p.price ≡ false) opp) own a
 
 pub apart_lowered : (r : Option Band) (s : Side) (n k : ℕ) (own opp : List Order) → Apart r s own opp → Apart r s (change (number_is n) (λ o. with_lots o k) own) opp
-apart_lowered r s n k own opp a = all_changed (λ o. All (λ p. can_meet r s o.price p.price ≡ false) opp) n k (λ o h. h) own a
+apart_lowered r s n k own opp a = all_changed (λ o. AllByRecursion (λ p. can_meet r s o.price p.price ≡ false) opp) n k (λ o h. h) own a
 
 leads : (r : Option Band) (s : Side) (p t : ℕ) (own opp : List Order) → Apart r s own opp → Leads r s p t own opp
 leads r s p t own opp a =
@@ -50,12 +50,12 @@ leads r s p t own opp a =
 apart_met : (r : Option Band) (s : Side) (i : Incoming) (k : ℕ) (own opp : List Order) → Apart r s own opp → Apart r s own (meet r s i k opp).rest
 apart_met r s i k own opp a = all_map (λ o b. all_met (λ q. can_meet r s o.price q.price ≡ false) (λ q j h. h) r s i k opp b) own a
 
-pub apart_joined : (r : Option Band) (s : Side) (own opp : List Order) (o : Order) → Apart r s own opp → (0 < o.lots → All (λ p. can_meet r s o.price p.price ≡ false) opp) → Apart r s (joined s o own) opp
+pub apart_joined : (r : Option Band) (s : Side) (own opp : List Order) (o : Order) → Apart r s own opp → (0 < o.lots → AllByRecursion (λ p. can_meet r s o.price p.price ≡ false) opp) → Apart r s (joined s o own) opp
 apart_joined r s own opp o a f = go (eqb o.lots 0) refl
   where
     go : (t : Bool) → eqb o.lots 0 ≡ t → Apart r s (cond t own (insert (before s) o own)) opp
     go true q = a
-    go false q = all_insert (before s) o (λ x. All (λ p. can_meet r s x.price p.price ≡ false) opp) own (f (grind (arith, nat_tests))) a
+    go false q = all_insert (before s) o (λ x. AllByRecursion (λ p. can_meet r s x.price p.price ≡ false) opp) own (f (grind (arith, nat_tests))) a
 
 -- the ledger when the remainder has lapsed or not
 abbrev pub lapsed : Bool → ℕ → Entries → Entries
@@ -66,7 +66,7 @@ pub record EnteredWell (r : Option Band) (t : Bool) (s : Side) (next : ℕ) (l :
   pub coupled : Coupled (lapsed t n (deals e.trades l)) s next e.own e.opposite 0 0
   pub apart : Apart r s e.own e.opposite
 
-pub entered_well : (r : Option Band) (t : Bool) {s : Side} {next : ℕ} {own opp : List Order} (o : Order) (l : Entries) → Coupled l s next own opp o.number o.lots → Known s next l o → Apart r s own opp → Absent o.number own → All (λ x. x.turn ≡ o.turn → ⊥) own → Absent o.number opp → EnteredWell r t s next l o.number (enter r t s o own opp)
+pub entered_well : (r : Option Band) (t : Bool) {s : Side} {next : ℕ} {own opp : List Order} (o : Order) (l : Entries) → Coupled l s next own opp o.number o.lots → Known s next l o → Apart r s own opp → Absent o.number own → AllByRecursion (λ x. x.turn ≡ o.turn → ⊥) own → Absent o.number opp → EnteredWell r t s next l o.number (enter r t s o own opp)
 entered_well r t {s} {next} {own} {opp} o l c k a x y z = go t
   where
     m : Met

@@ -1,7 +1,7 @@
 -- Entries by number, and the lots that rest under a number.
 use Rattle.std.proofs.Common.{◌≡◌, ℕ, ◌+◌, ◌-◌, ◌≤◌, Bool, true, false, cond, eqb, List, [], ◌∷◌, sym, refl, ap, ◌∙◌, arith}
 use Rattle.std.proofs.lemmas.Bool.{cond_both, eqb-true, eqb-false, or_parts}
-use Rattle.std.specs.List.{AllByRecursion as All}
+use Rattle.std.specs.List.{AllByRecursion}
 use Rattle.queue.specs.Held.{any, Apart, insert, remove, change}
 use Rattle.orders.specs.Priority.{with_lots}
 use Rattle.orders.specs.declared.order.Order.{Order}
@@ -45,13 +45,13 @@ pub at_cut : (n m k l : ℕ) → k ≤ l → at n m l 0 ≡ at n m k 0 + at n m 
 at_cut n m k l h = ap (λ x. at n m x 0) (let e : l ≡ k + (l - k) = omega arith in e) ∙ at_sum n m k (l - k)
 
 -- what holds of each
-pub all_both : {P Q R : Order → Type 0} → ((o : Order) → P o → Q o → R o) → (os : List Order) → All P os → All Q os → All R os
+pub all_both : {P Q R : Order → Type 0} → ((o : Order) → P o → Q o → R o) → (os : List Order) → AllByRecursion P os → AllByRecursion Q os → AllByRecursion R os
 all_both f [] a b = tt
 all_both f (o ∷ os) a b = (f o a.0 b.0, all_both f os a.1 b.1)
 
 -- no order has the number
 abbrev pub Absent : ℕ → List Order → Type 0
-Absent n = All (λ o. o.number ≡ n → ⊥)
+Absent n = AllByRecursion (λ o. o.number ≡ n → ⊥)
 
 pub absent_any : (n : ℕ) (os : List Order) → any (number_is n) os ≡ false → Absent n os
 absent_any n [] h = tt
@@ -99,7 +99,7 @@ absent_changed n k f [] e a = tt
 absent_changed n k f (x ∷ xs) e a =
     cond_both (eqb x.number n) _ _ (Absent k) (λ _. ((λ q. a.0 (sym (e x) ∙ q)), a.1)) (λ _. (a.0, absent_changed n k f xs e a.1))
 
-pub all_changed : (P : Order → Type 0) (n k : ℕ) → ((o : Order) → P o → P (with_lots o k)) → (os : List Order) → All P os → All P (change (number_is n) (λ o. with_lots o k) os)
+pub all_changed : (P : Order → Type 0) (n k : ℕ) → ((o : Order) → P o → P (with_lots o k)) → (os : List Order) → AllByRecursion P os → AllByRecursion P (change (number_is n) (λ o. with_lots o k) os)
 all_changed P n k f [] a = tt
 all_changed P n k f (x ∷ xs) a =
-    cond_both (eqb x.number n) _ _ (All P) (λ _. (f x a.0, a.1)) (λ _. (a.0, all_changed P n k f xs a.1))
+    cond_both (eqb x.number n) _ _ (AllByRecursion P) (λ _. (f x a.0, a.1)) (λ _. (a.0, all_changed P n k f xs a.1))

@@ -2,7 +2,7 @@
 use Rattle.std.proofs.Common.{◌≡◌, ℕ, ◌-◌, ◌<◌, ◌≤◌, Bool, true, false, cond, ltb, ◌⊎◌, List, [], ◌∷◌, ◌++◌, Some, None, Option, sym, refl, ap, ◌∙◌, subst, inl, inr, arith}
 use Rattle.std.proofs.lemmas.Bool.{cases_eq, cases_lt, true≢false}
 use Rattle.std.proofs.lemmas.Bool.Decides.{nat_tests}
-use Rattle.std.specs.List.{AllByRecursion as All}
+use Rattle.std.specs.List.{AllByRecursion}
 use Rattle.terms.specs.declared.side.Side.{Side}
 use Rattle.terms.specs.declared.side.Side.TheVariants.{Buy, Sell}
 use Rattle.terms.specs.declared.trade.Trade.{Trade}
@@ -44,7 +44,7 @@ priced r s (Some t) l o h = go (ltb t o.turn)
     go false = nearest-other r s l o.price h
 
 -- an order under a number that has lots on a side
-resting_under_lem : (P : Order → Type 0) (m : ℕ) (os : List Order) → All P os → 0 < under m os → (o : Order) × (o.number ≡ m) × P o
+resting_under_lem : (P : Order → Type 0) (m : ℕ) (os : List Order) → AllByRecursion P os → 0 < under m os → (o : Order) × (o.number ≡ m) × P o
 resting_under_lem P m [] a h = absurd (omega arith)
 resting_under_lem P m (x ∷ xs) a h = go (cases_eq m x.number) (resting_under_lem P m xs a.1)
   where
@@ -58,7 +58,7 @@ data Stands (P Q : Order → Type 0) (m n : ℕ) : Type 0 where
   on_opposite : (x : Order) → x.number ≡ m → Q x → Stands P Q m n
   in_hand : m ≡ n → Stands P Q m n
 
-stands : {l : Entries} {s : Side} {next : ℕ} {own opp : List Order} {n k : ℕ} (P Q : Order → Type 0) (m : ℕ) → Coupled l s next own opp n k → All P own → All Q opp → 0 < left (l m) → Stands P Q m n
+stands : {l : Entries} {s : Side} {next : ℕ} {own opp : List Order} {n k : ℕ} (P Q : Order → Type 0) (m : ℕ) → Coupled l s next own opp n k → AllByRecursion P own → AllByRecursion Q opp → 0 < left (l m) → Stands P Q m n
 stands {l} {s} {next} {own} {opp} {n} {k} P Q m c a b h = by (cases_lt 0 (under m opp)) (cases_lt 0 (under m own)) (cases_eq m n)
   where
     by : (0 < under m opp) ⊎ (under m opp ≤ 0) → (0 < under m own) ⊎ (under m own ≤ 0) → (m ≡ n) ⊎ (m ≡ n → ⊥) → Stands P Q m n
@@ -97,7 +97,7 @@ first_met {l} {s} {next} {own} {o} {os} {n} {k} c e m same has ahead =
     go (in_hand q) = two_sides s (sym e ∙ ap (λ i. (l i).side) (sym q) ∙ same ∙ there.side)
 
 -- so is what meets it, if none of its own side is ahead of it
-first_in_hand : {l : Entries} {s : Side} {next : ℕ} {own opp : List Order} {n k : ℕ} (p t : ℕ) → Coupled l s next own opp n k → Same l s n p t → All (λ x. Ahead s x.price x.turn p t → ⊥) own → First l n
+first_in_hand : {l : Entries} {s : Side} {next : ℕ} {own opp : List Order} {n k : ℕ} (p t : ℕ) → Coupled l s next own opp n k → Same l s n p t → AllByRecursion (λ x. Ahead s x.price x.turn p t → ⊥) own → First l n
 first_in_hand {l} {s} {next} {own} {opp} {n} {k} p t c e d m same has ahead =
     go (stands (λ x. Known s next l x × (Ahead s x.price x.turn p t → ⊥)) (λ x. (l x.number).side ≡ other s) m c (all_both (λ x u v. (u, v)) own c.owns d) (all_map (λ x u. u.same.side) opp c.opps) has)
   where
@@ -121,7 +121,7 @@ fair_trade r {s = Sell} n q price j p lim a b z c d e f g h x y =
 
 -- where it meets anything, none of its own side is ahead of it
 abbrev pub Leads : Option Band → Side → ℕ → ℕ → List Order → List Order → Type 0
-Leads r s p t own opp = All (λ o. can_meet r s p o.price ≡ true → All (λ x. Ahead s x.price x.turn p t → ⊥) own) opp
+Leads r s p t own opp = AllByRecursion (λ o. can_meet r s p o.price ≡ true → AllByRecursion (λ x. Ahead s x.price x.turn p t → ⊥) own) opp
 
 pub fair_meeting : (r : Option Band) {s : Side} {next : ℕ} {own : List Order} (i : Incoming) (t k : ℕ) (os : List Order) (l : Entries) → Coupled l s next own os i.number k → Same l s i.number i.limit t → Leads r s i.limit t own os → FairTrades r l (meet r s i k os).trades
 fair_meeting r i t k [] l c e d = tt

@@ -2,7 +2,7 @@
 use Rattle.std.proofs.Common.{◌≡◌, ℕ, ◌-◌, min, max, Bool, true, false, cond, ◌⊎◌, List, [], ◌∷◌, ◌++◌, map, length, take, Some, None, Option, sym, refl, ap, inl, inr, arith}
 use Rattle.std.proofs.lemmas.Bool.{true≢false}
 use Rattle.std.proofs.lemmas.Bool.Decides.{nat_tests}
-use Rattle.std.specs.List.{AllByRecursion as All}
+use Rattle.std.specs.List.{AllByRecursion}
 use Rattle.terms.specs.declared.side.Side.{Side}
 use Rattle.terms.specs.declared.side.Side.TheVariants.{Buy, Sell}
 use Rattle.terms.specs.declared.trade.Trade.{Trade}
@@ -46,23 +46,23 @@ near_far r s l (o ∷ os) = go (can_meet r s l o.price) (near_far r s l os)
     go true e = ap (λ xs. o ∷ xs) e
     go false e = refl
 
-near_can : (r : Option Band) (s : Side) (l : ℕ) (os : List Order) → All (CanMeet r s l) (near_of r s l os)
+near_can : (r : Option Band) (s : Side) (l : ℕ) (os : List Order) → AllByRecursion (CanMeet r s l) (near_of r s l os)
 near_can r s l [] = tt
 near_can r s l (o ∷ os) = go (can_meet r s l o.price) refl (near_can r s l os)
   where
-    go : (t : Bool) → can_meet r s l o.price ≡ t → All (CanMeet r s l) (near_of r s l os) → All (CanMeet r s l) (cond t (o ∷ near_of r s l os) [])
+    go : (t : Bool) → can_meet r s l o.price ≡ t → AllByRecursion (CanMeet r s l) (near_of r s l os) → AllByRecursion (CanMeet r s l) (cond t (o ∷ near_of r s l os) [])
     go true e a = (meets r s l o e, a)
     go false e a = tt
 
 -- behind one that cannot meet none can
-behind : (r : Option Band) (s : Side) (l : ℕ) (o : Order) (os : List Order) → can_meet r s l o.price ≡ false → Ordered (rank_of (other s)) (o ∷ os) → All (λ x. CanMeet r s l x → ⊥) (o ∷ os)
+behind : (r : Option Band) (s : Side) (l : ℕ) (o : Order) (os : List Order) → can_meet r s l o.price ≡ false → Ordered (rank_of (other s)) (o ∷ os) → AllByRecursion (λ x. CanMeet r s l x → ⊥) (o ∷ os)
 behind r s l o os e d = (cannot_meet r s l o e, all_map (λ x b. cannot_meet r s l x (apart_later r s l o x e b)) os d.sorted.0)
 
-far_cannot : (r : Option Band) (s : Side) (l : ℕ) (os : List Order) → Ordered (rank_of (other s)) os → All (λ o. CanMeet r s l o → ⊥) (far_of r s l os)
+far_cannot : (r : Option Band) (s : Side) (l : ℕ) (os : List Order) → Ordered (rank_of (other s)) os → AllByRecursion (λ o. CanMeet r s l o → ⊥) (far_of r s l os)
 far_cannot r s l [] d = tt
 far_cannot r s l (o ∷ os) d = go (can_meet r s l o.price) refl (far_cannot r s l os (ordered_tail (other s) d))
   where
-    go : (t : Bool) → can_meet r s l o.price ≡ t → All (λ x. CanMeet r s l x → ⊥) (far_of r s l os) → All (λ x. CanMeet r s l x → ⊥) (cond t (far_of r s l os) (o ∷ os))
+    go : (t : Bool) → can_meet r s l o.price ≡ t → AllByRecursion (λ x. CanMeet r s l x → ⊥) (far_of r s l os) → AllByRecursion (λ x. CanMeet r s l x → ⊥) (cond t (far_of r s l os) (o ∷ os))
     go true e a = a
     go false e a = behind r s l o os e d
 
@@ -71,7 +71,7 @@ record Meets (r : Option Band) (s : Side) (l k : ℕ) (os : List Order) (m : Met
   parties : map (counterparty s) m.trades ≡ map (λ o. o.number) (take (length m.trades) os)
   whole : Whole m.trades os
   traded : traded_lots m.trades ≡ min k (resting_lots (near_of r s l os))
-  stops : (traded_lots m.trades ≡ k) ⊎ All (λ o. CanMeet r s l o → ⊥) m.rest
+  stops : (traded_lots m.trades ≡ k) ⊎ AllByRecursion (λ o. CanMeet r s l o → ⊥) m.rest
 
 party_is : (r : Option Band) (s : Side) (i : Incoming) (o : Order) (k : ℕ) → counterparty s (trade r s i o k) ≡ o.number
 party_is r Buy i o k = refl
@@ -109,7 +109,7 @@ met r s i k (o ∷ os) d = go (step_is r s i.limit k o) (met r s i (k - o.lots) 
           stops = more dealt f.stops;
         }
       where
-        more : (trade r s i o o.lots).lots ≡ o.lots → (traded_lots (meet r s i (k - o.lots) os).trades ≡ k - o.lots) ⊎ All (λ x. CanMeet r s i.limit x → ⊥) (meet r s i (k - o.lots) os).rest → (traded_lots (trade r s i o o.lots ∷ (meet r s i (k - o.lots) os).trades) ≡ k) ⊎ All (λ x. CanMeet r s i.limit x → ⊥) (meet r s i (k - o.lots) os).rest
+        more : (trade r s i o o.lots).lots ≡ o.lots → (traded_lots (meet r s i (k - o.lots) os).trades ≡ k - o.lots) ⊎ AllByRecursion (λ x. CanMeet r s i.limit x → ⊥) (meet r s i (k - o.lots) os).rest → (traded_lots (trade r s i o o.lots ∷ (meet r s i (k - o.lots) os).trades) ≡ k) ⊎ AllByRecursion (λ x. CanMeet r s i.limit x → ⊥) (meet r s i (k - o.lots) os).rest
         more dealt (inl g) = inl (omega (arith, dealt, g, h))
         more dealt (inr g) = inr g
 

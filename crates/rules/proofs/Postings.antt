@@ -1,7 +1,7 @@
 -- What a call brings about before its trades keeps the ledger and the book in agreement.
 use Rattle.std.proofs.Common.{◌≡◌, ℕ, ◌+◌, ◌-◌, ◌<◌, ◌≤◌, Bool, true, false, cond, eqb, ◌⊎◌, List, [], ◌∷◌, Some, None, Option, sym, refl, ap, ◌∙◌, subst, inl, inr, arith}
 use Rattle.std.proofs.lemmas.Bool.{cases_eq, eqb-true, eqb-false}
-use Rattle.std.specs.List.{AllByRecursion as All}
+use Rattle.std.specs.List.{AllByRecursion}
 use Rattle.terms.specs.declared.message.Quoted.{Quoted}
 use Rattle.terms.specs.declared.side.Side.{Side}
 use Rattle.terms.specs.declared.side.Side.TheVariants.{Buy, Sell}
@@ -36,18 +36,18 @@ coupled_entered {l} {s} {next} {own} {opp} p k c =
     }
 
 -- the next turn is neither the number nor the turn of an order that rests
-pub next_absent : (l : Entries) (s : Side) (next : ℕ) (os : List Order) → All (Known s next l) os → Absent next os
+pub next_absent : (l : Entries) (s : Side) (next : ℕ) (os : List Order) → AllByRecursion (Known s next l) os → Absent next os
 next_absent l s next os a = all_map (λ o e q. omega (arith, e.number)) os a
 
-pub next_unused : (l : Entries) (s : Side) (next : ℕ) (os : List Order) → All (Known s next l) os → All (λ o. o.turn ≡ next → ⊥) os
+pub next_unused : (l : Entries) (s : Side) (next : ℕ) (os : List Order) → AllByRecursion (Known s next l) os → AllByRecursion (λ o. o.turn ≡ next → ⊥) os
 next_unused l s next os a = all_map (λ o e q. omega (arith, e.turn)) os a
 
 -- an order that was found
-pub found-is : (P : Order → Type 0) (n : ℕ) (os : List Order) (o : Order) → first (number_is n) os ≡ Some o → All P os → (o.number ≡ n) × P o
+pub found-is : (P : Order → Type 0) (n : ℕ) (os : List Order) (o : Order) → first (number_is n) os ≡ Some o → AllByRecursion P os → (o.number ≡ n) × P o
 found-is P n [] o h a = let z : ◌≡◌ {A = ℕ} 0 1 = cc in absurd (omega arith)
 found-is P n (x ∷ xs) o h a = go (eqb x.number n) refl h (found-is P n xs o)
   where
-    go : (t : Bool) → eqb x.number n ≡ t → cond t (Some x) (first (number_is n) xs) ≡ Some o → (first (number_is n) xs ≡ Some o → All P xs → (o.number ≡ n) × P o) → (o.number ≡ n) × P o
+    go : (t : Bool) → eqb x.number n ≡ t → cond t (Some x) (first (number_is n) xs) ≡ Some o → (first (number_is n) xs ≡ Some o → AllByRecursion P xs → (o.number ≡ n) × P o) → (o.number ≡ n) × P o
     go true e q f = let s : x ≡ o = cc in (ap (λ y. y.number) (sym s) ∙ eqb-true x.number n e, subst P s a.0)
     go false e q f = f q a.1
 

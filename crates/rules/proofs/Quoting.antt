@@ -3,7 +3,7 @@ use Rattle.std.proofs.Common.{◌≡◌, ℕ, suc, ◌+◌, ◌<◌, ◌≤◌, 
 use Rattle.std.proofs.lemmas.List.{take_at}
 use Rattle.std.proofs.lemmas.Bool.{cond_both, or_parts, or_from, eqb-true, ne_eqb}
 use Rattle.std.proofs.lemmas.Bool.Decides.{nat_tests}
-use Rattle.std.specs.List.{AllByRecursion as All}
+use Rattle.std.specs.List.{AllByRecursion}
 use Rattle.terms.specs.declared.message.QuoteEntry.{QuoteEntry}
 use Rattle.terms.specs.declared.side.Side.{Side}
 use Rattle.terms.specs.declared.side.Side.TheVariants.{Buy, Sell}
@@ -52,14 +52,14 @@ module _ (s : Side) (n : ℕ) (o : Order) (number : o.number ≡ n) (turn : o.tu
       (λ t. free_absent m xs (absent_any m xs (ap (λ k. any (number_is k) xs) (sym (eqb-true x.number m t)) ∙ a.0)) p.1)
       (λ t. or_from (clash (rank_of s) o x) _ (rw (number, turn) (subst (λ u. (not u && (eqb x.number n || eqb x.turn n)) ≡ false) t p.0)) (free_without (Some m) xs a.1 p.1))
 
-all_without : (P : Order → Type 0) (leg : Option ℕ) (os : List Order) → All P os → All P (without leg os)
+all_without : (P : Order → Type 0) (leg : Option ℕ) (os : List Order) → AllByRecursion P os → AllByRecursion P (without leg os)
 all_without P None os a = a
 all_without P (Some n) os a = all_remove (number_is n) P os a
 
 -- a leg that joins its side
-all-joined : (s : Side) (o : Order) (os : List Order) → All (λ x. 0 < x.lots) os → All (λ x. 0 < x.lots) (joined s o os)
+all-joined : (s : Side) (o : Order) (os : List Order) → AllByRecursion (λ x. 0 < x.lots) os → AllByRecursion (λ x. 0 < x.lots) (joined s o os)
 all-joined s o os a =
-    cond_both (eqb o.lots 0) os (insert (before s) o os) (All (λ x. 0 < x.lots)) (λ _. a) (λ t. all_insert (before s) o (λ x. 0 < x.lots) os (grind (arith, nat_tests)) a)
+    cond_both (eqb o.lots 0) os (insert (before s) o os) (AllByRecursion (λ x. 0 < x.lots)) (λ _. a) (λ t. all_insert (before s) o (λ x. 0 < x.lots) os (grind (arith, nat_tests)) a)
 
 length-joined : (s : Side) (o : Order) (os : List Order) → length (joined s o os) ≤ suc (length os)
 length-joined s o os =

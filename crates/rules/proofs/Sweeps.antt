@@ -2,7 +2,7 @@
 use Rattle.std.proofs.Common.{◌≡◌, ℕ, suc, ◌+◌, ◌-◌, ◌<◌, ◌≤◌, cond, eqb, ◌⊎◌, List, [], ◌∷◌, ◌++◌, map, length, take, drop, Some, None, Option, sym, refl, ap, ◌∙◌, subst, inl, inr, arith, length-append, length-drop}
 use Rattle.std.proofs.lemmas.List.{append_assoc, take_at, drop_at, drop-drop, length-take-le}
 use Rattle.std.proofs.lemmas.Bool.{cases_eq, eq-eqb, ne_eqb}
-use Rattle.std.specs.List.{AllByRecursion as All}
+use Rattle.std.specs.List.{AllByRecursion}
 use Rattle.terms.specs.declared.side.Side.{Side}
 use Rattle.terms.specs.declared.side.Side.TheVariants.{Buy}
 use Rattle.terms.specs.declared.trade.Trade.{Trade}
@@ -24,10 +24,10 @@ pub record MeetLeaves (k : ℕ) (os : List Order) (m : Met) : Type 0 where
   pub left : m.left ≤ k
   pub trades : length m.trades ≤ length os
   pub lengths : length m.trades + length m.rest ≤ suc (length os)
-  pub some : All (λ o. 0 < o.lots) m.rest
+  pub some : AllByRecursion (λ o. 0 < o.lots) m.rest
   pub traded : 0 < k → m.left ≡ 0 → 0 < length m.trades
 
-pub meet_leaves : (r : Option Band) (s : Side) (i : Incoming) (k : ℕ) (os : List Order) → All (λ o. 0 < o.lots) os → MeetLeaves k os (meet r s i k os)
+pub meet_leaves : (r : Option Band) (s : Side) (i : Incoming) (k : ℕ) (os : List Order) → AllByRecursion (λ o. 0 < o.lots) os → MeetLeaves k os (meet r s i k os)
 meet_leaves r s i k [] a = record { left = omega arith; trades = omega arith; lengths = omega arith; some = tt; traded = λ z e. omega arith }
 meet_leaves r s i k (o ∷ os) a = go (step_is r s i.limit k o) (meet_leaves r s i (k - o.lots) os a.1)
   where
@@ -137,7 +137,7 @@ module _ (r : Option Band) (o : Order) (os sells : List Order) (place : ℕ) (ta
     sweep_goes_on e = (
       record {
         buying = fits.buying.1;
-        selling = subst (All (λ x. 0 < x.lots)) (sym rest_is) leaves.some;
+        selling = subst (AllByRecursion (λ x. 0 < x.lots)) (sym rest_is) leaves.some;
         room = omega (arith, leaves.lengths, fits.room, place_is, ap length rest_is, ap length table_is, length-written place (first_meets r o sells).trades table room);
       },
       sym (sweep-next r o os sells place table room (sym left_is ∙ e) ∙ (λ i. sweep_at r os (sym rest_is i) (sym place_is i) (sym table_is i))),

@@ -4,7 +4,7 @@ use Rattle.std.proofs.lemmas.List.{append_assoc, take-append-drop}
 use Rattle.std.proofs.lemmas.Bool.{eq-eqb, ne_eqb, le-leb, true≢false}
 use Rattle.terms.specs.declared.side.Side.{Side}
 use Rattle.terms.specs.declared.trade.Trade.{Trade}
-use Rattle.std.specs.List.{AllByRecursion as All}
+use Rattle.std.specs.List.{AllByRecursion}
 use Rattle.queue.proofs.Carried.{map_cut}
 use Rattle.queue.specs.Carries.{Carries, map_held}
 use Rattle.queue.specs.Held.{Held, after_cut, head}
@@ -103,7 +103,7 @@ onward r s i k d o os place table z e m f =
       fits = λ y.
           let q : o.lots ≡ d = omega (arith, f.some.0) in
           let gone : cut_first o d os ≡ os = rw (eq-eqb o.lots d q) refl in
-          record { some = subst (All (λ x. 0 < x.lots)) (sym gone) f.some.1; room = rw gone (omega (arith, f.room, length-set table place (trade r s i o d))) };
+          record { some = subst (AllByRecursion (λ x. 0 < x.lots)) (sym gone) f.some.1; room = rw gone (omega (arith, f.room, length-set table place (trade r s i o d))) };
       meets = sym (meet-next r s i k d o os place table z e m (omega (arith, f.room)));
     }
 

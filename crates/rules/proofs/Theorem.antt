@@ -2,7 +2,7 @@
 use Rattle.std.proofs.Common.{◌≡◌, ℕ, ◌<◌, ◌≤◌, Bool, true, false, cond, not, ◌&&◌, ltb, ◌⊎◌, List, [], ◌∷◌, Some, None, Option, sym, refl, ap, ◌∙◌, subst, inl, inr, arith}
 use Rattle.std.proofs.lemmas.Bool.{or_parts, true≢false}
 use Rattle.std.proofs.lemmas.Bool.Decides.{nat_tests}
-use Rattle.std.specs.List.{AllByRecursion as All}
+use Rattle.std.specs.List.{AllByRecursion}
 use Rattle.terms.specs.declared.message.OrderChange.{OrderChange}
 use Rattle.terms.specs.declared.message.Quoted.{Quoted}
 use Rattle.terms.specs.declared.refusal.Refusal.{Refusal}
@@ -25,11 +25,11 @@ use Rattle.rules.proofs.Explains.{Explains, explained_order, explained_quote, ex
 use Rattle.rules.proofs.Reasons.{reasoned}
 
 -- an accepted call passes each of its tests
-pub passed : (cs : List Check) → first_of cs ≡ None → All (λ c. c.1 ≡ false) cs
+pub passed : (cs : List Check) → first_of cs ≡ None → AllByRecursion (λ c. c.1 ≡ false) cs
 passed [] h = tt
 passed ((r, t) ∷ cs) h = go t h (passed cs)
   where
-    go : (u : Bool) → cond u (Some r) (first_of cs) ≡ None → (first_of cs ≡ None → All (λ c. c.1 ≡ false) cs) → (u ≡ false) × All (λ c. c.1 ≡ false) cs
+    go : (u : Bool) → cond u (Some r) (first_of cs) ≡ None → (first_of cs ≡ None → AllByRecursion (λ c. c.1 ≡ false) cs) → (u ≡ false) × AllByRecursion (λ c. c.1 ≡ false) cs
     go true e f = let z : ◌≡◌ {A = ℕ} 0 1 = cc in absurd (omega arith)
     go false e f = (refl, f e)
 

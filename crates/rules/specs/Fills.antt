@@ -3,7 +3,7 @@
 --   Whole      each trade but the last takes all lots of its order
 --   Filled     the orders met are the first of the other side, as many as can meet and as its lots suffice for
 use Rattle.std.specs.Prelude.{◌≡◌, ℕ, ◌≤◌, min, ◌⊎◌, List, [], ◌∷◌, ◌++◌, map, length, take, Some, None, Option}
-use Rattle.std.specs.List.{AllByRecursion as All}
+use Rattle.std.specs.List.{AllByRecursion}
 use Rattle.terms.specs.declared.side.Side.{Side}
 use Rattle.terms.specs.declared.side.Side.TheVariants.{Buy, Sell}
 use Rattle.terms.specs.declared.trade.Trade.{Trade}
@@ -41,15 +41,15 @@ pub record Filled (r : Option Band) (s : Side) (limit k : ℕ) (ts : List Trade)
   pub near : List Order
   pub far : List Order
   pub split : os ≡ near ++ far
-  pub can : All (CanMeet r s limit) near
-  pub cannot : All (λ o. CanMeet r s limit o → ⊥) far
+  pub can : AllByRecursion (CanMeet r s limit) near
+  pub cannot : AllByRecursion (λ o. CanMeet r s limit o → ⊥) far
   -- the parties met are the first ones, and each but the last is filled whole
   pub parties : map (counterparty s) ts ≡ map (λ o. o.number) (take (length ts) os)
   pub whole : Whole ts os
   -- the lesser of its lots and of the lots that can meet it
   pub traded : traded_lots ts ≡ min k (resting_lots near)
   -- it stops only where no lots are left, or no order that can meet it
-  pub stops : (traded_lots ts ≡ k) ⊎ All (λ o. CanMeet r s limit o → ⊥) rest
+  pub stops : (traded_lots ts ≡ k) ⊎ AllByRecursion (λ o. CanMeet r s limit o → ⊥) rest
 
 -- in a halt there is no price at which to meet
 abbrev pub range_in : Phase → Option Band → Option Band

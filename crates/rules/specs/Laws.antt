@@ -3,7 +3,7 @@
 --   Fair         each trade is inside the range and both limits, and each party is the first of its side
 --   Uncrossed    no price of the range is within the limits of both a resting buy and a resting sell
 use Rattle.std.specs.Prelude.{◌≡◌, ℕ, ◌+◌, ◌<◌, ◌≤◌, ◌⊎◌, List, [], ◌∷◌, Some, None, Option}
-use Rattle.std.specs.List.{AllByRecursion as All}
+use Rattle.std.specs.List.{AllByRecursion}
 use Rattle.terms.specs.declared.side.Side.{Side}
 use Rattle.terms.specs.declared.side.Side.TheVariants.{Buy, Sell}
 use Rattle.terms.specs.declared.trade.Trade.{Trade}
@@ -28,7 +28,7 @@ Inside (Some r) p = (r.low ≤ p) × (p ≤ r.high)
 
 abbrev pub Uncrossed : Option Band → Book → Type 0
 Uncrossed r b =
-    (p : ℕ) → Inside r p → All (λ o. All (λ s. p ≤ o.price → s.price ≤ p → ⊥) b.sells.elements) b.buys.elements
+    (p : ℕ) → Inside r p → AllByRecursion (λ o. AllByRecursion (λ s. p ≤ o.price → s.price ≤ p → ⊥) b.sells.elements) b.buys.elements
 
 -- better price, or the same price and an earlier turn
 abbrev pub Better : Side → ℕ → ℕ → Type 0

@@ -1,6 +1,6 @@
 -- Meetings that write their trades into a table, from a place on.
 use Rattle.std.specs.Prelude.{◌≡◌, ℕ, ◌+◌, ◌<◌, ◌≤◌, Bool, false, cond, List, ◌++◌, length, take, drop, Option}
-use Rattle.std.specs.List.{AllByRecursion as All}
+use Rattle.std.specs.List.{AllByRecursion}
 use Rattle.terms.specs.declared.side.Side.{Side}
 use Rattle.terms.specs.declared.trade.Trade.{Trade}
 use Rattle.queue.specs.Held.{Held, any, clash}
@@ -17,7 +17,7 @@ written place ts table = take place table ++ (ts ++ drop (place + length ts) tab
 
 -- orders that all have lots, and a place in the table for a trade with each
 pub record Fits (os : List Order) (place : ℕ) (table : List Trade) : Type 0 where
-  pub some : All (λ o. 0 < o.lots) os
+  pub some : AllByRecursion (λ o. 0 < o.lots) os
   pub room : place + length os ≤ length table
 
 -- the table after a meeting, the next place of it, the lots that are left, and what rests on the other side
@@ -61,8 +61,8 @@ pub record Room (s : Side) (h : Held Order) (o : Order) : Type 0 where
 
 -- both sides have lots, and the table has a place for a trade with each
 pub record FitsBoth (buys sells : List Order) (place : ℕ) (table : List Trade) : Type 0 where
-  pub buying : All (λ o. 0 < o.lots) buys
-  pub selling : All (λ o. 0 < o.lots) sells
+  pub buying : AllByRecursion (λ o. 0 < o.lots) buys
+  pub selling : AllByRecursion (λ o. 0 < o.lots) sells
   pub room : place + (length buys + length sells) ≤ length table
 
 -- the same of a sweep

@@ -2,12 +2,12 @@
 use Rattle.std.proofs.Common.{◌≡◌, ℕ, ◌+◌, ◌%◌, ◌^◌, ◌<◌, List, [], ◌∷◌, ◌++◌, map, decimal, refl, ap, ◌∙◌, append_assoc, arith}
 use Rattle.std.proofs.lemmas.Fmt.{decimal_by_steps}
 use Rattle.std.proofs.lemmas.Bool.{ne_eqb}
-use Rattle.std.specs.List.{AllByRecursion as All}
+use Rattle.std.specs.List.{AllByRecursion}
 use Rattle.tape.specs.Lines.{Word, line_end, line, spaced, lines_of}
 
 -- no space and no end of a line
 abbrev pub Clean : Word → Type 0
-Clean = All (λ b. (b ≡ 32 → ⊥) × (b ≡ 10 → ⊥))
+Clean = AllByRecursion (λ b. (b ≡ 32 → ⊥) × (b ≡ 10 → ⊥))
 
 clean_more : (w v : Word) → Clean w → Clean v → Clean (w ++ v)
 clean_more [] v h k = k
@@ -20,7 +20,7 @@ pub clean_decimal : (n : ℕ) → n < 2 ^ 64 → Clean (decimal n)
 clean_decimal =
     decimal_by_steps (λ n ds. Clean ds) (λ n h. clean_digit n) (λ n ds h k. clean_more ds ((48 + n % 10) ∷ []) k (clean_digit (n % 10)))
 
-pub clean_decimals : (ns : List ℕ) → All (λ n. n < 2 ^ 64) ns → All Clean (map decimal ns)
+pub clean_decimals : (ns : List ℕ) → AllByRecursion (λ n. n < 2 ^ 64) ns → AllByRecursion Clean (map decimal ns)
 clean_decimals [] h = tt
 clean_decimals (n ∷ ns) h = (clean_decimal n h.0, clean_decimals ns h.1)
 
@@ -29,14 +29,14 @@ word_back [] bs ws ls h e = e
 word_back (b ∷ w) bs ws ls h e =
     rw (ne_eqb b 10 h.0.1, ne_eqb b 32 h.0.0, word_back w bs ws ls h.1 e)
 
-end_back : (ws : List Word) (bs : List ℕ) → All Clean ws → lines_of (line_end ws ++ bs) ≡ ([] ∷ ws) ∷ lines_of bs
+end_back : (ws : List Word) (bs : List ℕ) → AllByRecursion Clean ws → lines_of (line_end ws ++ bs) ≡ ([] ∷ ws) ∷ lines_of bs
 end_back [] bs h = refl
 end_back (w ∷ ws) bs h =
     let one = word_back w (line_end ws ++ bs) ws (lines_of bs) h.0 (end_back ws bs h.1) in
     rw (append_assoc w (line_end ws) bs, one)
 
 -- a line of one word at least
-pub line_back : (w : Word) (ws : List Word) (bs : List ℕ) → All Clean (w ∷ ws) → lines_of (line (w ∷ ws) ++ bs) ≡ (w ∷ ws) ∷ lines_of bs
+pub line_back : (w : Word) (ws : List Word) (bs : List ℕ) → AllByRecursion Clean (w ∷ ws) → lines_of (line (w ∷ ws) ++ bs) ≡ (w ∷ ws) ∷ lines_of bs
 line_back w ws bs h =
     let one = word_back w (line_end ws ++ bs) ws (lines_of bs) h.0 (end_back ws bs h.1) in
     rw (append_assoc w (line_end ws) bs, one)

@@ -6,7 +6,7 @@
 --   seen r          what a reader returned, its reference read
 use Rattle.std.specs.Prelude.{ℕ, zero, suc, ◌+◌, ◌-◌, ◌*◌, ◌/◌, ◌%◌, ◌^◌, ◌<◌, cond, List, [], ◌∷◌, Ok, Err, Result, ◌==◌, nat_lt}
 use Rattle.std.specs.Borrow.{Bor}
-use Rattle.std.specs.List.{AllByRecursion as All}
+use Rattle.std.specs.List.{AllByRecursion}
 use Rattle.terms.specs.declared.refusal.Refusal.{Refusal}
 use Rattle.terms.specs.declared.refusal.Refusal.TheVariants.{EndsEarly, BadNumber}
 
@@ -23,7 +23,7 @@ abbrev pub encoded : ℕ → List ℕ
 encoded = groups 3
 
 abbrev pub Encodable : List ℕ → Type 0
-Encodable = All (λ n. n < 2 ^ 28)
+Encodable = AllByRecursion (λ n. n < 2 ^ 28)
 
 -- the byte b, whose top bit is set, and the value of the groups behind it, which is not 0
 abbrev pub lowest : ℕ → Result (ℕ × List ℕ) Refusal → Result (ℕ × List ℕ) Refusal

@@ -3,7 +3,7 @@ use Rattle.std.proofs.Common.{◌≡◌, ℕ, zero, suc, ◌+◌, ◌-◌, ◌^�
 use Rattle.std.proofs.lemmas.Fmt.{decimal_is_IsNumeral}
 use Rattle.std.proofs.lemmas.Bool.{cases_Bool, cond-true, cond-false, and_parts, both_ways, not-true, eq-eqb, le-ltb}
 use Rattle.std.specs.Str.Parse.{digits_value}
-use Rattle.std.specs.List.{flat_map, AllByRecursion as All}
+use Rattle.std.specs.List.{flat_map, AllByRecursion}
 use Rattle.terms.proofs.Setups.{refused}
 use Rattle.terms.proofs.Small.{refusal_small}
 use Rattle.terms.specs.Messages.{letter_for, numbers_for}
@@ -26,7 +26,7 @@ use Rattle.tape.specs.Setups.{read_setup, encoded_setup}
 use Rattle.tape_dump.specs.Dumps.{setup_words, message_words, stop_words, count_words, end_lines, reading_lines, behind_setup, setup_lines, setup_of, reading_of, dumped, entry_with, entry_of}
 
 abbrev Wide : List ℕ → Type 0
-Wide = All (λ n. n < 2 ^ 64)
+Wide = AllByRecursion (λ n. n < 2 ^ 64)
 
 wide : (ns : List ℕ) → Encodable ns → Wide ns
 wide [] h = tt
@@ -35,9 +35,9 @@ wide (n ∷ ns) h = (omega (arith, h.0), wide ns h.1)
 -- a line of one word at least, and clean ones
 abbrev Ready : List Word → Type 0
 Ready [] = ⊥
-Ready (w ∷ ws) = All Clean (w ∷ ws)
+Ready (w ∷ ws) = AllByRecursion Clean (w ∷ ws)
 
-lines_back : (ls : List (List Word)) → All Ready ls → lines_of (flat_map line ls) ≡ ls
+lines_back : (ls : List (List Word)) → AllByRecursion Ready ls → lines_of (flat_map line ls) ≡ ls
 lines_back [] h = refl
 lines_back ([] ∷ ls) h = absurd h.0
 lines_back ((w ∷ ws) ∷ ls) h = line_back w ws (flat_map line ls) h.0 ∙ ap (λ ms. (w ∷ ws) ∷ ms) (lines_back ls h.1)
@@ -59,7 +59,7 @@ entry_back p h =
     ∙ ap (λ n. Some (record { place = n; message = message_from (letter_for m) (map (digits_value 10) (map decimal (numbers_for m))) })) (decimal_is_IsNumeral p.place h.0).1
     ∙ ap (λ x. Some (record { place = p.place; message = x })) same
 
-entries_back : (ps : List Placed) (ls : List (List Word)) → All Printable ps → map entry_of (take (length ps) (map message_words ps ++ ls)) ≡ map Some ps
+entries_back : (ps : List Placed) (ls : List (List Word)) → AllByRecursion Printable ps → map entry_of (take (length ps) (map message_words ps ++ ls)) ≡ map Some ps
 entries_back [] ls h = refl
 entries_back (p ∷ ps) ls h = rw (entry_back p h.0, entries_back ps ls h.1)
 
@@ -89,7 +89,7 @@ clean_true (b ∷ w) h =
       clean_true w two.1,
     )
 
-messages_ready : (ps : List Placed) (ls : List (List Word)) → All Printable ps → All Ready ls → All Ready (map message_words ps ++ ls)
+messages_ready : (ps : List Placed) (ls : List (List Word)) → AllByRecursion Printable ps → AllByRecursion Ready ls → AllByRecursion Ready (map message_words ps ++ ls)
 messages_ready [] ls h k = k
 messages_ready (p ∷ ps) ls h k = (
   (
@@ -115,13 +115,13 @@ stop_ready e place h =
     let small = refusal_small e in
     (clean_true (codes "X") refl, (clean_decimal (refusal_number e) (omega arith), (clean_decimal place h, tt)))
 
-end_ready : (n bytes : ℕ) (stop : Option Refusal) → n < 2 ^ 64 → bytes < 2 ^ 64 → All Ready (end_lines n bytes stop)
+end_ready : (n bytes : ℕ) (stop : Option Refusal) → n < 2 ^ 64 → bytes < 2 ^ 64 → AllByRecursion Ready (end_lines n bytes stop)
 end_ready n bytes None h k = (count_ready n bytes h k, tt)
 end_ready n bytes (Some e) h k = (stop_ready e bytes k, (count_ready n bytes h k, tt))
 
 -- what is printed of a reading of at most `turns` messages fits
 pub record Fitting (turns : ℕ) (r : Reading) : Type 0 where
-  pub each : All Printable r.messages
+  pub each : AllByRecursion Printable r.messages
   pub few : length r.messages ≤ turns
   pub small : r.bytes < 2 ^ 64
 
@@ -146,7 +146,7 @@ reading_fits (suc turns) at (b ∷ bs) fits h =
       ih (at + (length (b ∷ bs) - length rest)) rest (message_bytes (b ∷ bs) m rest fits e) (omega arith),
     ))
 
-reading_ready : (turns : ℕ) (r : Reading) → turns < 2 ^ 64 → Fitting turns r → All Ready (reading_lines r)
+reading_ready : (turns : ℕ) (r : Reading) → turns < 2 ^ 64 → Fitting turns r → AllByRecursion Ready (reading_lines r)
 reading_ready turns r h f =
     let few = f.few in
     messages_ready r.messages _ f.each (end_ready (length r.messages) r.bytes r.stop (omega arith) f.small)

@@ -2,8 +2,7 @@
 .PHONY: demo test
 
 demo:
-	rt check tape_dump
-	target/bin/tape_dump < samples/first-day.tape
+	cd crates/tape_dump && rt run < ../../samples/first-day.tape
 
 test:
 	bash .ci/run

@@ -1,4 +1,4 @@
-// Plays a short day on both kinds of queue.
+// A client of the book, proved over the clauses of its calls. The program prints nothing yet.
 #![tactic(auto)]
 
 mod client;

@@ -5,7 +5,7 @@ ghost use Rattle.terms.specs.declared.setup.Instrument.{Instrument as AnyInstrum
 ghost use Rattle.orders.specs.Priority.{buy_rank, sell_rank};
 ghost use Rattle.queue.specs.Held.{Sound, answer};
 ghost use Rattle.rules.specs.Book.{Answers, Phase as AnyPhase};
-ghost use Rattle.rules.specs.Checks.{first_of, found as foundOf, improves, out_of_reach, rises, beyond_range, keeps_place, taken, is_trading, change_checks, found_checks};
+ghost use Rattle.rules.specs.Checks.{first_of, found as found_of, improves, out_of_reach, rises, beyond_range, keeps_place, taken, is_trading, change_checks, found_checks};
 ghost use Rattle.book.specs.Books.{book_of};
 ghost use Rattle.book.specs.Changes.{phase_in, band_in, rise_in, Checked};
 
@@ -112,7 +112,7 @@ fn check_found<B: Queue<BuyOrder>, S: Queue<SellOrder>>(
     buys: &B,
     sells: &S,
 ) -> Result<Found, Refusal>
-    ensures answers { B.Queue.lawful buys.now → S.Queue.lawful sells.now → ((terms : AnyInstrument) (quote : AnyOption AnyQuoted) → Checked result (foundOf (book_of (phase_in setting) terms next quote (B.Queue.held buys.now) (S.Queue.held sells.now) (λ us. band_in setting)) change.now.order) (first_of (found_checks change.now (foundOf (book_of (phase_in setting) terms next quote (B.Queue.held buys.now) (S.Queue.held sells.now) (λ us. band_in setting)) change.now.order) (book_of (phase_in setting) terms next quote (B.Queue.held buys.now) (S.Queue.held sells.now) (λ us. band_in setting))))) }
+    ensures answers { B.Queue.lawful buys.now → S.Queue.lawful sells.now → ((terms : AnyInstrument) (quote : AnyOption AnyQuoted) → Checked result (found_of (book_of (phase_in setting) terms next quote (B.Queue.held buys.now) (S.Queue.held sells.now) (λ us. band_in setting)) change.now.order) (first_of (found_checks change.now (found_of (book_of (phase_in setting) terms next quote (B.Queue.held buys.now) (S.Queue.held sells.now) (λ us. band_in setting)) change.now.order) (book_of (phase_in setting) terms next quote (B.Queue.held buys.now) (S.Queue.held sells.now) (λ us. band_in setting))))) }
     ensures sound { OnOk result ((B.Queue.lawful buys.now → Sound buy_rank (B.Queue.held buys.now)) × (S.Queue.lawful sells.now → Sound sell_rank (S.Queue.held sells.now))) }
     ensures turns { IfOk result (λ f. keeps_place change.now f.order ≡ false → next + 1 ≤ 1000001) }
 {
@@ -147,7 +147,7 @@ pub(crate) fn check_change<B: Queue<BuyOrder>, S: Queue<SellOrder>>(
     sells: &S,
     places: usize,
 ) -> Result<Found, Refusal>
-    ensures answers { B.Queue.lawful buys.now → S.Queue.lawful sells.now → ((quote : AnyOption AnyQuoted) → Checked result (foundOf (book_of (phase_in setting) terms.now next quote (B.Queue.held buys.now) (S.Queue.held sells.now) (λ us. band_in setting)) change.now.order) (first_of (change_checks change.now places (book_of (phase_in setting) terms.now next quote (B.Queue.held buys.now) (S.Queue.held sells.now) (λ us. band_in setting))))) }
+    ensures answers { B.Queue.lawful buys.now → S.Queue.lawful sells.now → ((quote : AnyOption AnyQuoted) → Checked result (found_of (book_of (phase_in setting) terms.now next quote (B.Queue.held buys.now) (S.Queue.held sells.now) (λ us. band_in setting)) change.now.order) (first_of (change_checks change.now places (book_of (phase_in setting) terms.now next quote (B.Queue.held buys.now) (S.Queue.held sells.now) (λ us. band_in setting))))) }
     ensures sound { OnOk result ((B.Queue.lawful buys.now → Sound buy_rank (B.Queue.held buys.now)) × (S.Queue.lawful sells.now → Sound sell_rank (S.Queue.held sells.now))) }
     ensures turns { IfOk result (λ f. keeps_place change.now f.order ≡ false → next + 1 ≤ 1000001) }
 {

@@ -3,7 +3,7 @@ ghost use Rattle.std.specs.Prelude.{◌≡◌, ◌<◌, ◌≤◌, false, map, l
 ghost use Rattle.orders.specs.Priority.{rank_of};
 ghost use Rattle.queue.specs.Carries.{Carries, map_held};
 ghost use Rattle.rules.specs.Book.{other, pick};
-ghost use Rattle.rules.specs.Meeting.{can_meet, nearest as nearestOf, resting_limit, trade as trade_of, lapses as lapsing};
+ghost use Rattle.rules.specs.Meeting.{can_meet, nearest as nearest_of, resting_limit, trade as trade_of, lapses as lapsing};
 ghost use Rattle.rules.specs.Tables.{Fits, Room, meet_at, enter_at};
 ghost use Rattle.book.specs.Matching.{incoming_of, plain_buys, plain_sells};
 
@@ -47,7 +47,7 @@ fn can_meet(band: Option<Band>, side: Side, limit: u32, price: u32) -> bool
 
 // The price of the band that is nearest to this one.
 fn nearest(band: Option<Band>, price: u32) -> u32
-    ensures { result ≡ nearestOf band price }
+    ensures { result ≡ nearest_of band price }
 {
     match band {
         Some(band) => band.low.max(band.high.min(price)),

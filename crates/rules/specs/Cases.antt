@@ -42,7 +42,7 @@ abbrev pub Gives : Ruled → Outcome → List Trade → Type 0
 Gives x o ts = (x.outcome ≡ o) × (x.trades ≡ ts)
 
 pub record WorkedCases : Type 0 where
-  pub all-trade : Gives (gives [] (enters Buy 104 50)) (says 3 50 0 0 1) (trades 3 2 104 50 ∷ [])
+  pub all_trade : Gives (gives [] (enters Buy 104 50)) (says 3 50 0 0 1) (trades 3 2 104 50 ∷ [])
   pub ten_rest : Gives (gives [] (enters Buy 104 60)) (says 3 50 10 0 1) (trades 3 2 104 50 ∷ [])
   pub ten_are_cancelled : Gives (gives [] (enters Buy 105 60)) (says 3 50 0 10 1) (trades 3 2 104 50 ∷ [])
   pub sell_above_the_high : Gives (gives [] (enters Sell 105 5)) (says 3 0 5 0 0) []

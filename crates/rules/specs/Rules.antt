@@ -12,7 +12,7 @@ use Rattle.terms.specs.declared.side.Side.{Side}
 use Rattle.terms.specs.declared.side.Side.TheVariants.{Buy, Sell}
 use Rattle.terms.specs.declared.side.TimeInForce.{TimeInForce}
 use Rattle.terms.specs.declared.trade.Trade.{Trade}
-use Rattle.queue.specs.Held.{remove, is, change as changeFirst}
+use Rattle.queue.specs.Held.{remove, is, change as change_first}
 use Rattle.orders.specs.Priority.{with_lots}
 use Rattle.orders.specs.declared.order.Found.{Found}
 use Rattle.orders.specs.declared.order.Order.{Order}
@@ -126,7 +126,7 @@ abbrev pub number_is : ℕ → Order → Bool
 number_is n = is (λ o. o.number) n
 
 abbrev pub lowered : OrderChange → List Order → List Order
-lowered c os = changeFirst (number_is c.order) (λ p. with_lots p c.lots) os
+lowered c os = change_first (number_is c.order) (λ p. with_lots p c.lots) os
 
 abbrev pub cut_in_place : OrderChange → Found → Book → Ruled
 cut_in_place c f b =

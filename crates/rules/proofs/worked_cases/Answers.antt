@@ -1,10 +1,10 @@
 use Rattle.std.proofs.Common.{refl}
 use Rattle.rules.proofs.worked_cases.Goals as goal
 
-pub returns : goal.returns
-returns g =
+pub returns-clause-settled : goal.returns-clause-settled
+returns-clause-settled g =
     record {
-      all-trade = (refl, refl);
+      all_trade = (refl, refl);
       ten_rest = (refl, refl);
       ten_are_cancelled = (refl, refl);
       sell_above_the_high = (refl, refl);

@@ -1,5 +1,5 @@
 -- Which of two orders of one side ranks before the other: price priority, then time priority.
-use Rattle.std.specs.Prelude.{Bool, ◌||◌, ◌&&◌, ℕ, eqb, ltb}
+use Rattle.std.specs.Prelude.{Bool, ◌||◌, ◌&&◌, ℕ, ◌==◌, nat_lt}
 use Rattle.terms.specs.declared.side.Side.{Side}
 use Rattle.terms.specs.declared.side.Side.TheVariants.{Buy, Sell}
 use Rattle.queue.specs.Rank.{Rank}
@@ -9,15 +9,15 @@ use Rattle.orders.specs.declared.order.SellOrder.{SellOrder}
 
 -- at the same price the lower turn
 abbrev pub earlier : Order → Order → Bool
-earlier o p = eqb o.price p.price && ltb o.turn p.turn
+earlier o p = o.price == p.price && nat_lt o.turn p.turn
 
 -- a buying order at a higher price
 abbrev pub buy_before : Order → Order → Bool
-buy_before o p = ltb p.price o.price || earlier o p
+buy_before o p = nat_lt p.price o.price || earlier o p
 
 -- a selling order at a lower price
 abbrev pub sell_before : Order → Order → Bool
-sell_before o p = ltb o.price p.price || earlier o p
+sell_before o p = nat_lt o.price p.price || earlier o p
 
 abbrev pub with_lots : Order → ℕ → Order
 with_lots o n = record { number = o.number; member = o.member; price = o.price; lots = n; turn = o.turn }

@@ -1,9 +1,9 @@
 // The day range, and day limits over another range.
-ghost use Rattle.std.specs.Prelude.{◌≡◌, ◌≤◌, true, false, [], MatchResult};
+ghost use Rattle.std.specs.Prelude.{◌≡◌, ◌≤◌, true, false, [], MatchResult, refl};
 ghost use Rattle.terms.specs.Setups.{span_allowed};
 ghost use Rattle.terms.specs.declared.refusal.Refusal.TheVariants.{OutsideLimits};
 ghost use Rattle.price_range.specs.Bands.{day_band, common, Common};
-ghost use Rattle.std.proofs.Common.{rules, arith};
+ghost use Rattle.std.proofs.Common.{rules};
 
 use crate::PriceRange;
 use crate::band::Band;
@@ -33,9 +33,9 @@ impl DayRange {
 impl PriceRange for DayRange {
     ghost answers = { λ s us. day_band s.day };
 
-    ghost proper = { first_of (Prim.search rules, Prim.grind (arith, Self.row.coded.inj)) };
+    ghost proper = { λ s us. s.proper };
 
-    ghost backwards = { first_of (Prim.search rules, Prim.grind (arith, Self.row.coded.inj)) };
+    ghost backwards = { λ s us vs u h. refl };
 
     fn band(&self) -> Option<Band>
         ensures { result ≡ day_band self.now.day }

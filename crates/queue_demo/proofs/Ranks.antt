@@ -4,33 +4,28 @@ use lib.Dec.{eqb-suc-zero}
 use Rattle.std.proofs.lemmas.Bool.{lt-leb, le-leb}
 use Rattle.terms.specs.declared.refusal.Refusal.{Refusal}
 use Rattle.terms.specs.declared.refusal.Refusal.TheVariants.{UnfitQueue, QueueFull}
-use Rattle.orders.specs.Priority.{with_lots}
+use Rattle.orders.specs.Priority.{buy_rank}
 use Rattle.orders.specs.declared.order.BuyOrder.{BuyOrder}
 use Rattle.queue.specs.Held.{Held, any, clash, insert, answer}
-use Rattle.queue.specs.Rank.{Rank}
 use Rattle.queue.specs.Through.{insert_all, putting}
 use Rattle.queue_demo.specs.Demo.{ranked_in}
-use Rattle.queue_demo.specs.Sample.{buying, buys_before, entered, ranked}
-
--- the rank of `BuyOrder`
-abbrev pub buy_rank : Rank BuyOrder
-buy_rank = record { number = λ o. o.0.number; key = λ o. o.0.turn; lots = λ o. o.0.lots; before = buys_before; with_lots = λ o n. record { 0 = with_lots o.0 n } }
+use Rattle.queue_demo.specs.Sample.{buying, entered, ranked}
 
 abbrev pub holding : ℕ → List BuyOrder → Held BuyOrder
 holding places es = record { capacity = places; elements = es }
 
 -- there is a place for x, and no element has its number or key
 pub put_next : (places : ℕ) (es : List BuyOrder) (x : BuyOrder) (xs : List BuyOrder) → length es < places → (eqb x.0.lots 0 || any (clash buy_rank x) es) ≡ false
-    → putting buy_rank (holding places es) (x ∷ xs) ≡ putting buy_rank (holding places (insert buys_before x es)) xs
+    → putting buy_rank (holding places es) (x ∷ xs) ≡ putting buy_rank (holding places (insert buy_rank.before x es)) xs
 put_next places es x xs room free = let r = lt-leb places (length es) room in rw (r, free)
 
 pub all-put : (places : ℕ) → 5 ≤ places → putting buy_rank (holding places []) entered ≡ None
 all-put places room =
-    put_next places (insert_all buys_before (take 0 entered) []) (buying 1 102 40) (drop 1 entered) (omega arith) refl
-    ∙ put_next places (insert_all buys_before (take 1 entered) []) (buying 2 104 5) (drop 2 entered) (omega arith) refl
-    ∙ put_next places (insert_all buys_before (take 2 entered) []) (buying 3 102 30) (drop 3 entered) (omega arith) refl
-    ∙ put_next places (insert_all buys_before (take 3 entered) []) (buying 4 103 7) (drop 4 entered) (omega arith) refl
-    ∙ put_next places (insert_all buys_before (take 4 entered) []) (buying 5 104 50) (drop 5 entered) (omega arith) refl
+    put_next places (insert_all buy_rank.before (take 0 entered) []) (buying 1 102 40) (drop 1 entered) (omega arith) refl
+    ∙ put_next places (insert_all buy_rank.before (take 1 entered) []) (buying 2 104 5) (drop 2 entered) (omega arith) refl
+    ∙ put_next places (insert_all buy_rank.before (take 2 entered) []) (buying 3 102 30) (drop 3 entered) (omega arith) refl
+    ∙ put_next places (insert_all buy_rank.before (take 3 entered) []) (buying 4 103 7) (drop 4 entered) (omega arith) refl
+    ∙ put_next places (insert_all buy_rank.before (take 4 entered) []) (buying 5 104 50) (drop 5 entered) (omega arith) refl
 
 pub sample_put : (places : ℕ) → putting buy_rank (holding places []) entered ≡ cond (leb 5 places) None (Some QueueFull)
 sample_put zero = refl

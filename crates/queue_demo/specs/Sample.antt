@@ -1,6 +1,5 @@
 -- The orders of the demonstration.
-use Rattle.std.specs.Prelude.{ℕ, Bool, List, [], ◌∷◌}
-use Rattle.orders.specs.Priority.{buy_before}
+use Rattle.std.specs.Prelude.{ℕ, List, [], ◌∷◌}
 use Rattle.orders.specs.declared.order.BuyOrder.{BuyOrder}
 
 -- an order of member 7, numbered by its turn
@@ -10,10 +9,6 @@ buying number price lots = record { 0 = record { number = number; member = 7; pr
 -- as they enter
 abbrev pub entered : List BuyOrder
 entered = buying 1 102 40 ∷ (buying 2 104 5 ∷ (buying 3 102 30 ∷ (buying 4 103 7 ∷ (buying 5 104 50 ∷ []))))
-
--- the rank of buying orders
-abbrev pub buys_before : BuyOrder → BuyOrder → Bool
-buys_before o p = buy_before o.0 p.0
 
 -- in rank order: the higher price first, then the earlier turn
 abbrev pub ranked : List BuyOrder

@@ -1,9 +1,10 @@
 // The same orders by way of both kinds of queue.
 ghost use Rattle.std.specs.Prelude.{◌≡◌, IfOk, string_bytes};
+ghost use Rattle.orders.specs.Priority.{buy_rank};
 ghost use Rattle.queue.specs.Held.{Sorted};
 ghost use Rattle.queue.specs.Through.{SameElements};
 ghost use Rattle.queue_demo.specs.Demo.{ranked_in, printed, printed_lines};
-ghost use Rattle.queue_demo.specs.Sample.{entered, buys_before};
+ghost use Rattle.queue_demo.specs.Sample.{entered};
 
 use crate::report::push_report;
 use crate::sample::sample;
@@ -18,7 +19,7 @@ use terms::refusal::Refusal;
 // The sample in rank order, by way of any kind of queue, which is left as it was.
 fn rank_sample<Q: Queue<BuyOrder>>(q: &mut Q) -> Result<[BuyOrder; 5], Refusal>
     ensures gives { result ≡ ranked_in (Q.Queue.held q.old) }
-    ensures ranks { IfOk result (λ orders. Sorted buys_before orders × SameElements entered orders) }
+    ensures ranks { IfOk result (λ orders. Sorted buy_rank.before orders × SameElements entered orders) }
     ensures leaves { Q.Queue.held q.new ≡ Q.Queue.held q.old }
 {
     let mut orders = sample();

@@ -2,7 +2,7 @@ use Rattle.std.proofs.Common.{string_bytes, sym, ◌∙◌}
 use Rattle.heap_queue.specs.Heaps as heap
 use Rattle.sorted_queue.specs.Tables as sorted
 use Rattle.queue_demo.proofs.Prints.{given_ranked, both_printed, printed_lines_lem}
-use Rattle.queue_demo.proofs.Ranks.{buy_rank}
+use Rattle.orders.specs.Priority.{buy_rank}
 use Rattle.queue_demo.proofs.demo.demo_text.Goals as goal
 
 pub returns : goal.returns

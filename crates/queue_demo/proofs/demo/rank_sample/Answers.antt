@@ -1,7 +1,7 @@
 use Rattle.std.proofs.Common.{[], Ok, Err, sym, ap, ◌∙◌, subst}
 use Rattle.std.proofs.lemmas.Result.{err_from_is_err_and, IfOk-from_err}
 use Rattle.queue.specs.Through.{insert_all, SameElements}
-use Rattle.queue_demo.specs.Sample.{buys_before}
+use Rattle.orders.specs.Priority.{buy_rank}
 use Rattle.queue_demo.proofs.Ranks.{or_ranked, ranked_through}
 use Rattle.queue_demo.proofs.demo.rank_sample.Goals as goal
 
@@ -21,7 +21,7 @@ returns g c =
     let r = ranked_through (g.Q.Queue.held c.args.q.now) _ c.rank_through.result entered c.rank_through.ensures.unfit c.rank_through.ensures.answers in
     let done = c.in_ok-rank_through.ensures in
     record {
-      gives = ap Ok (done.gives ∙ ap (λ os. insert_all buys_before os []) entered) ∙ ap or_ranked (sym c.in_ok-rank_through.was) ∙ r;
+      gives = ap Ok (done.gives ∙ ap (λ os. insert_all buy_rank.before os []) entered) ∙ ap or_ranked (sym c.in_ok-rank_through.was) ∙ r;
       ranks = (done.ranks.0, subst (λ os. SameElements os c.rank_through.new.elements) entered done.ranks.1);
       leaves = c.rank_through.ensures.leaves;
     }

@@ -2,7 +2,7 @@
 ghost use Rattle.std.specs.Prelude.{◌≡◌, Some};
 ghost use Rattle.terms.specs.Values.{letter_byte, letter_of, make_number, make_of, market_number, market_of};
 
-#[derive(Clone, Copy)]
+#[derive(Clone, Copy, Debug, PartialEq, Eq)]
 pub enum Letter {
     Buy = b'B' as isize,
     Sell = b'S' as isize,
@@ -48,7 +48,7 @@ impl Letter {
 }
 
 // Which kind of queue a tape's book has.
-#[derive(Clone, Copy)]
+#[derive(Clone, Copy, Debug, PartialEq, Eq)]
 pub enum Make {
     Sorted = 0,
     Heaps = 1,
@@ -76,7 +76,7 @@ impl Make {
 }
 
 // Which price range a tape's book has.
-#[derive(Clone, Copy)]
+#[derive(Clone, Copy, Debug, PartialEq, Eq)]
 pub enum Market {
     Warrant = 0,
     Stock = 1,

@@ -5,7 +5,7 @@ ghost use Rattle.terms.specs.Messages.{letter_for};
 use crate::letter::Letter;
 
 // What a member gives for a new order.
-#[derive(Clone, Copy)]
+#[derive(Clone, Copy, Debug, PartialEq, Eq)]
 pub struct OrderEntry {
     pub member: u32,
     pub price: u32,
@@ -13,7 +13,7 @@ pub struct OrderEntry {
 }
 
 // The new price and the new lots of what still rests of an order.
-#[derive(Clone, Copy)]
+#[derive(Clone, Copy, Debug, PartialEq, Eq)]
 pub struct OrderChange {
     pub member: u32,
     pub order: u32,
@@ -22,14 +22,14 @@ pub struct OrderChange {
 }
 
 // The order that a member takes out.
-#[derive(Clone, Copy)]
+#[derive(Clone, Copy, Debug, PartialEq, Eq)]
 pub struct OrderCancel {
     pub member: u32,
     pub order: u32,
 }
 
 // The two legs of a market maker's quote.
-#[derive(Clone, Copy)]
+#[derive(Clone, Copy, Debug, PartialEq, Eq)]
 pub struct QuoteEntry {
     pub bid_price: u32,
     pub bid_lots: u32,
@@ -38,14 +38,14 @@ pub struct QuoteEntry {
 }
 
 // An accepted quote, with the order numbers of its legs.
-#[derive(Clone, Copy)]
+#[derive(Clone, Copy, Debug, PartialEq, Eq)]
 pub struct Quoted {
     pub entry: QuoteEntry,
     pub bid: u32,
     pub ask: u32,
 }
 
-#[derive(Clone, Copy)]
+#[derive(Clone, Copy, Debug, PartialEq, Eq)]
 pub enum Message {
     Buy(OrderEntry),
     Sell(OrderEntry),

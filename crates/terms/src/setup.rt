@@ -8,7 +8,7 @@ use crate::limits::{LOTS_MAX, PRICE_MAX, TICK_MAX};
 use crate::refusal::Refusal;
 
 // A least and a greatest number.
-#[derive(Clone, Copy)]
+#[derive(Clone, Copy, Debug, PartialEq, Eq)]
 pub struct Span {
     pub least: u32,
     pub greatest: u32,
@@ -30,7 +30,7 @@ impl Span {
 }
 
 // What a book is opened with: the tick of its prices, and what a quote keeps to.
-#[derive(Clone, Copy)]
+#[derive(Clone, Copy, Debug, PartialEq, Eq)]
 pub struct Instrument {
     pub tick: u32,
     // how far the ask lies above the bid
@@ -52,7 +52,7 @@ impl Instrument {
 }
 
 // The set-up of a tape: the instrument, the floor and ceiling of the day, and the kinds of queue and range.
-#[derive(Clone, Copy)]
+#[derive(Clone, Copy, Debug, PartialEq, Eq)]
 pub struct Setup {
     pub instrument: Instrument,
     pub day: Span,

@@ -1,7 +1,7 @@
 // What a call of a book brings about: trades, and the answer.
 
 // Lots that changed hands, with the order numbers of both parties.
-#[derive(Clone, Copy)]
+#[derive(Clone, Copy, Debug, PartialEq, Eq)]
 pub struct Trade {
     pub buyer: u32,
     pub seller: u32,
@@ -10,7 +10,7 @@ pub struct Trade {
 }
 
 // What a call answers. The sums are wide enough for any queue.
-#[derive(Clone, Copy)]
+#[derive(Clone, Copy, Debug, PartialEq, Eq)]
 pub struct Answer {
     // the order, the bid leg of a quote, or 0
     pub number: u32,

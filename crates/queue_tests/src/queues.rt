@@ -21,7 +21,7 @@ pub fn buy(number: u32, price: u32, lots: u32, turn: u32) -> BuyOrder {
 pub fn code(r: Result<(), Refusal>) -> u8 {
     match r {
         Ok(()) => 0,
-        Err(refusal) => refusal.number(),
+        Err(refusal) => u8::from(refusal),
     }
 }
 

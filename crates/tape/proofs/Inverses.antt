@@ -1,5 +1,5 @@
 -- The set-up and the messages are read back from their bytes, and from no others.
-use Rattle.std.proofs.Common.{◌≡◌, ℕ, suc, ◌<◌, List, [], ◌∷◌, ◌++◌, length, get_or, Some, None, Ok, Err, Option, Result, sym, refl, ap, ◌∙◌, subst, append_assoc, not-suc-le-zero, arith, lit<}
+use Rattle.std.proofs.Common.{◌≡◌, ℕ, suc, ◌<◌, List, [], ◌∷◌, ◌++◌, length, get_or, Some, None, Ok, Err, Option, Result, sym, refl, ap, ◌∙◌, subst, append_assoc, arith, lit<}
 use Rattle.std.specs.List.{flat_map}
 use Rattle.terms.proofs.Cases.{case_value}
 use Rattle.terms.proofs.Setups.{places, places_all, refused, setup_back}
@@ -21,7 +21,6 @@ use Rattle.tape.specs.Messages.{arity, message_from, encoded_message, body, behi
 use Rattle.tape.specs.Numbers.{Encodable, encoded, read_numbers}
 use Rattle.tape.specs.Setups.{before, tested, read_setup, encoded_setup}
 use Rattle.tape.proofs.Encodings.{ok_same}
-use Rattle.tape.proofs.Numbers.{behind, behind_cons}
 use Rattle.tape.proofs.Runs.{reads_all, only_all, numbers_followed}
 
 -- a message is its letter and its numbers
@@ -156,7 +155,3 @@ pub setup_followed : (bs : List ℕ) (s : Setup) (rest more : List ℕ) → ((i 
 setup_followed bs s rest more fits e =
     let parts = tested-is (read_numbers 9 bs) s rest e in
     ap tested (numbers_followed 9 bs parts.0 rest more fits parts.1) ∙ ap (λ r. before r (rest ++ more)) parts.2
-
-pub message_step : (bs : List ℕ) → 0 < length bs → behind_letter (letter_of (get_or bs 0 0)) (behind bs) ≡ read_message bs
-message_step [] some = absurd (not-suc-le-zero some)
-message_step (b ∷ bs) some = ap (behind_letter (letter_of b)) (behind_cons b bs)

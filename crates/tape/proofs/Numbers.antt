@@ -1,8 +1,9 @@
 -- How a number is read byte by byte.
-use Rattle.std.proofs.Common.{◌≡◌, ℕ, zero, suc, ◌+◌, ◌-◌, ◌*◌, ◌^◌, ◌<◌, ◌≤◌, List, [], ◌∷◌, length, get_or, take, drop, Ok, Err, refl, not-suc-le-zero, pow-suc, arith, lit≤}
+use Rattle.std.proofs.Common.{◌≡◌, ℕ, zero, suc, ◌+◌, ◌-◌, ◌*◌, ◌^◌, ◌<◌, ◌≤◌, List, [], ◌∷◌, length, get_or, take, drop, Ok, Err, Result, refl, not-suc-le-zero, pow-suc, arith, lit≤}
 use native.Mathlib.Nat.{pow-le-pow_right}
 use lib.Seq.{take-length}
 use Rattle.std.proofs.lemmas.Bool.{lt-ltb, le-ltb, eq-eqb, ne_eqb}
+use Rattle.terms.specs.declared.refusal.Refusal.{Refusal}
 use Rattle.terms.specs.declared.refusal.Refusal.TheVariants.{EndsEarly, BadNumber}
 use Rattle.tape.specs.Numbers.{lowest, read_groups}
 
@@ -29,12 +30,12 @@ unfolding read_groups
 read_fifth [] some high = absurd (not-suc-le-zero some)
 read_fifth (b ∷ bs) some high = rw (le-ltb b 128 high)
 
-pub read_more : (more : ℕ) (bs : List ℕ) → 0 < length bs → 128 ≤ get_or bs 0 0 → 0 < more → lowest (get_or bs 0 0) (read_groups (more - 1) (behind bs)) ≡ read_groups more bs
+pub read_more : (more : ℕ) (bs : List ℕ) (r : Result (ℕ × List ℕ) Refusal) → 0 < length bs → 128 ≤ get_or bs 0 0 → 0 < more → r ≡ read_groups (more - 1) (behind bs) → lowest (get_or bs 0 0) r ≡ read_groups more bs
 unfolding read_groups
-read_more more [] some high turn = absurd (not-suc-le-zero some)
-read_more zero (b ∷ bs) some high turn = absurd (not-suc-le-zero turn)
-read_more (suc more) (b ∷ bs) some high turn =
-    let q : suc more - 1 ≡ more = omega arith in rw (behind_cons b bs, q, le-ltb b 128 high)
+read_more more [] r some high turn e = absurd (not-suc-le-zero some)
+read_more zero (b ∷ bs) r some high turn e = absurd (not-suc-le-zero turn)
+read_more (suc more) (b ∷ bs) r some high turn e =
+    let q : suc more - 1 ≡ more = omega arith in rw (e, behind_cons b bs, q, le-ltb b 128 high)
 
 pub lowest_zero : (b n : ℕ) (bs : List ℕ) → n ≡ 0 → Err BadNumber ≡ lowest b (Ok (n, bs))
 lowest_zero b n bs none = rw (eq-eqb n 0 none)

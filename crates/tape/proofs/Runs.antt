@@ -12,10 +12,6 @@ abbrev pub behind_read : List ℕ → Result (List ℕ × List ℕ) Refusal → 
 behind_read ns (Ok p) = Ok (ns ++ p.0, p.1)
 behind_read ns (Err e) = Err e
 
-pub behind_none : (r : Result (List ℕ × List ℕ) Refusal) → behind_read [] r ≡ r
-behind_none (Ok p) = refl
-behind_none (Err e) = refl
-
 behind_onto : (ns : List ℕ) (x : ℕ) (r : Result (List ℕ × List ℕ) Refusal) → behind_read (ns ++ x ∷ []) r ≡ behind_read ns (onto x r)
 behind_onto ns x (Ok p) = rw append_assoc
 behind_onto ns x (Err e) = refl

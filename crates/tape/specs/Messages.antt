@@ -1,16 +1,12 @@
 -- A message: its letter, and the numbers of its body.
-use Rattle.std.specs.Prelude.{ℕ, List, [], ◌∷◌, Some, None, Ok, Err, Option, Result, slice_index}
+use Rattle.std.specs.Prelude.{◌≡◌, ℕ, List, [], ◌∷◌, Some, None, Ok, Err, Option, Result}
 use Rattle.std.specs.List.{flat_map}
-use Rattle.terms.specs.Messages.{letter_for, numbers_for}
+use Rattle.terms.specs.Messages.{letter_for, numbers_for, order_from, change_from, cancel_from, quote_from}
 use Rattle.terms.specs.Values.{letter_byte, letter_of}
 use Rattle.terms.specs.declared.letter.Letter.{Letter}
 use Rattle.terms.specs.declared.letter.Letter.TheVariants as letter
 use Rattle.terms.specs.declared.message.Message.{Message}
 use Rattle.terms.specs.declared.message.Message.TheVariants.{Buy, Sell, ImmediateBuy, ImmediateSell, Change, Cancel, Quote, Renew, Halt, Resume, End}
-use Rattle.terms.specs.declared.message.OrderCancel.{OrderCancel}
-use Rattle.terms.specs.declared.message.OrderChange.{OrderChange}
-use Rattle.terms.specs.declared.message.OrderEntry.{OrderEntry}
-use Rattle.terms.specs.declared.message.QuoteEntry.{QuoteEntry}
 use Rattle.terms.specs.declared.refusal.Refusal.{Refusal}
 use Rattle.terms.specs.declared.refusal.Refusal.TheVariants.{EndsEarly, UnknownLetter}
 use Rattle.tape.specs.Numbers.{encoded, read_numbers}
@@ -28,20 +24,6 @@ arity letter.Renew = 0
 arity letter.Halt = 0
 arity letter.Resume = 0
 arity letter.End = 0
-
--- the bodies, each from its numbers in a tape's order
-abbrev pub order_from : List ℕ → OrderEntry
-order_from ns = record { member = slice_index ns 0; price = slice_index ns 1; lots = slice_index ns 2 }
-
-abbrev pub change_from : List ℕ → OrderChange
-change_from ns = record { member = slice_index ns 0; order = slice_index ns 1; price = slice_index ns 2; lots = slice_index ns 3 }
-
-abbrev pub cancel_from : List ℕ → OrderCancel
-cancel_from ns = record { member = slice_index ns 0; order = slice_index ns 1 }
-
-abbrev pub quote_from : List ℕ → QuoteEntry
-quote_from ns =
-    record { bid_price = slice_index ns 0; bid_lots = slice_index ns 1; ask_price = slice_index ns 2; ask_lots = slice_index ns 3 }
 
 abbrev pub message_from : Letter → List ℕ → Message
 message_from letter.Buy ns = Buy (order_from ns)
@@ -64,6 +46,11 @@ encoded_message m = letter_byte (letter_for m) ∷ flat_map encoded (numbers_for
 abbrev pub body : {A : Type 0} → (List ℕ → A) → Result (List ℕ × List ℕ) Refusal → Result (A × List ℕ) Refusal
 body f (Ok p) = Ok (f p.0, p.1)
 body f (Err e) = Err e
+
+-- a message of some kind, of a body that was made of the numbers that were read
+abbrev pub MadeOf : {A : Type 0} → (List ℕ → A → Type 0) → (A → Message → Type 0) → Result (List ℕ × List ℕ) Refusal → Result (Message × List ℕ) Refusal → Type 0
+MadeOf {A} made kind (Ok p) r = (a : A) × (m : Message) × made p.0 a × kind a m × (r ≡ Ok (m, p.1))
+MadeOf made kind (Err e) r = r ≡ Err e
 
 abbrev pub read_body : Letter → List ℕ → Result (Message × List ℕ) Refusal
 read_body l bs = body (message_from l) (read_numbers (arity l) bs)

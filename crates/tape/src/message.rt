@@ -1,86 +1,48 @@
 // A message: a letter, and the numbers of its body.
-ghost use Rattle.std.specs.Prelude.{◌≡◌, ℕ, List, ◌++◌, Ok};
+ghost use Rattle.std.specs.Prelude.{◌≡◌, ℕ, ◌*◌, ◌^◌, ◌<◌, List, ◌++◌, Ok};
 ghost use Rattle.terms.specs.Messages.{numbers_for};
 ghost use Rattle.terms.specs.declared.message.Message.{Message as AnyMessage};
 ghost use Rattle.tape.specs.Numbers.{Encodable, seen, read_numbers};
-ghost use Rattle.tape.specs.Messages.{body, order_from, change_from, cancel_from, quote_from, read_body, read_message, encoded_message};
+ghost use Rattle.tape.specs.Messages.{MadeOf, read_body, read_message, encoded_message};
 
 use crate::number::read_numbers;
+use std::convert::TryFrom;
 use terms::letter::Letter;
-use terms::message::{Message, OrderCancel, OrderChange, OrderEntry, QuoteEntry};
+use terms::message::Message;
 use terms::refusal::Refusal;
 
-fn read_order(bytes: &[u8]) -> Result<(OrderEntry, &[u8]), Refusal>
-    ensures { seen result ≡ body order_from (read_numbers 3 bytes.now) }
+// The message that `kind` makes of the body whose `N` numbers stand first, and the bytes behind it.
+fn read_as<const N: usize, T: From<[u32; N]>, F: FnOnce(T) -> Message>(
+    bytes: &[u8],
+    kind: F,
+) -> Result<(Message, &[u8]), Refusal>
+    requires callable { F.IsAlwaysCallable kind }
+    requires fits_memory { N * 4 < 2 ^ 63 }
+    ensures { MadeOf T.from_gives (F.post kind) (read_numbers N bytes.now) (seen result) }
 {
-    let ([member, price, lots], rest) = read_numbers::<3>(bytes)?;
-    Ok((
-        OrderEntry {
-            member,
-            price,
-            lots,
-        },
-        rest,
-    ))
-}
-
-fn read_change(bytes: &[u8]) -> Result<(OrderChange, &[u8]), Refusal>
-    ensures { seen result ≡ body change_from (read_numbers 4 bytes.now) }
-{
-    let ([member, order, price, lots], rest) = read_numbers::<4>(bytes)?;
-    Ok((
-        OrderChange {
-            member,
-            order,
-            price,
-            lots,
-        },
-        rest,
-    ))
-}
-
-fn read_cancel(bytes: &[u8]) -> Result<(OrderCancel, &[u8]), Refusal>
-    ensures { seen result ≡ body cancel_from (read_numbers 2 bytes.now) }
-{
-    let ([member, order], rest) = read_numbers::<2>(bytes)?;
-    Ok((OrderCancel { member, order }, rest))
-}
-
-fn read_quote(bytes: &[u8]) -> Result<(QuoteEntry, &[u8]), Refusal>
-    ensures { seen result ≡ body quote_from (read_numbers 4 bytes.now) }
-{
-    let ([bid_price, bid_lots, ask_price, ask_lots], rest) = read_numbers::<4>(bytes)?;
-    Ok((
-        QuoteEntry {
-            bid_price,
-            bid_lots,
-            ask_price,
-            ask_lots,
-        },
-        rest,
-    ))
-}
-
-// A message of the kind `$kind` with the body that `$read` reads.
-macro_rules! with_body {
-    ($kind:ident, $read:ident, $bytes:expr) => {{
-        let (body, rest) = $read($bytes)?;
-        Ok((Message::$kind(body), rest))
-    }};
+    // no `?`: the prover does not follow one at a pair of `N` numbers and a reference
+    match read_numbers::<N>(bytes) {
+        Ok(read) => {
+            let (numbers, rest) = read;
+            Ok((kind(T::from(numbers)), rest))
+        }
+        Err(refusal) => Err(refusal),
+    }
 }
 
 // The message with this letter, whose body stands first.
+#[tactic(auto, unfolding(crate::specs::Numbers::read_numbers))]
 fn read_body(letter: Letter, bytes: &[u8]) -> Result<(Message, &[u8]), Refusal>
     ensures { seen result ≡ read_body letter bytes.now }
 {
     match letter {
-        Letter::Buy => with_body!(Buy, read_order, bytes),
-        Letter::Sell => with_body!(Sell, read_order, bytes),
-        Letter::ImmediateBuy => with_body!(ImmediateBuy, read_order, bytes),
-        Letter::ImmediateSell => with_body!(ImmediateSell, read_order, bytes),
-        Letter::Change => with_body!(Change, read_change, bytes),
-        Letter::Cancel => with_body!(Cancel, read_cancel, bytes),
-        Letter::Quote => with_body!(Quote, read_quote, bytes),
+        Letter::Buy => read_as(bytes, Message::Buy),
+        Letter::Sell => read_as(bytes, Message::Sell),
+        Letter::ImmediateBuy => read_as(bytes, Message::ImmediateBuy),
+        Letter::ImmediateSell => read_as(bytes, Message::ImmediateSell),
+        Letter::Change => read_as(bytes, Message::Change),
+        Letter::Cancel => read_as(bytes, Message::Cancel),
+        Letter::Quote => read_as(bytes, Message::Quote),
         Letter::Renew => Ok((Message::Renew, bytes)),
         Letter::Halt => Ok((Message::Halt, bytes)),
         Letter::Resume => Ok((Message::Resume, bytes)),
@@ -97,9 +59,6 @@ pub fn read_message(bytes: &[u8]) -> Result<(Message, &[u8]), Refusal>
 {
     match bytes {
         [] => Err(Refusal::EndsEarly),
-        [byte, rest @ ..] => match Letter::from_byte(*byte) {
-            Some(letter) => read_body(letter, rest),
-            None => Err(Refusal::UnknownLetter),
-        },
+        [byte, rest @ ..] => read_body(Letter::try_from(*byte)?, rest),
     }
 }

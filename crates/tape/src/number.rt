@@ -46,9 +46,9 @@ pub fn read_numbers<const N: usize>(bytes: &[u8]) -> Result<([u32; N], &[u8]), R
 {
     let mut numbers = [0; N];
     let mut rest = bytes;
-    for i in 0..N {
+    for place in &mut numbers {
         let (number, tail) = read_number(rest)?;
-        numbers[i] = number;
+        *place = number;
         rest = tail;
     }
     Ok((numbers, rest))

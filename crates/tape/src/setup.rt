@@ -6,6 +6,7 @@ ghost use Rattle.tape.specs.Numbers.{Encodable, seen};
 ghost use Rattle.tape.specs.Setups.{read_setup, encoded_setup};
 
 use crate::number::read_numbers;
+use std::convert::TryFrom;
 use terms::refusal::Refusal;
 use terms::setup::Setup;
 
@@ -17,6 +18,6 @@ pub fn read_setup(bytes: &[u8]) -> Result<(Setup, &[u8]), Refusal>
     ensures followed { (s : AnySetup) (rest more : List ℕ) → seen result ≡ Ok (s, rest) → read_setup (bytes.now ++ more) ≡ Ok (s, rest ++ more) }
 {
     let (numbers, rest) = read_numbers::<9>(bytes)?;
-    let setup = Setup::from_numbers(numbers)?;
+    let setup = Setup::try_from(numbers)?;
     Ok((setup, rest))
 }

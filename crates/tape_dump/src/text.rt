@@ -62,7 +62,7 @@ pub fn push_setup(text: &mut Vec<u8>, setup: &Setup) -> Result<(), AllocError>
     ensures { OnOk result (text.new.items ≡ text.old.items ++ line (setup_words setup.now)) }
 {
     text.extend_from_slice(b"0 set-up")?;
-    push_numbers(text, &setup.numbers())?;
+    push_numbers(text, &<[u32; 9]>::from(*setup))?;
     text.push(b'\n')?;
     Ok(())
 }
@@ -73,7 +73,7 @@ pub fn push_message(text: &mut Vec<u8>, place: usize, message: &Message) -> Resu
 {
     push_decimal(text, place as u64)?;
     text.push(b' ')?;
-    text.push(message.letter().byte())?;
+    text.push(u8::from(message.letter()))?;
     push_body(text, message)?;
     text.push(b'\n')?;
     Ok(())
@@ -84,7 +84,7 @@ pub fn push_stop(text: &mut Vec<u8>, refusal: Refusal, place: usize) -> Result<(
     ensures { OnOk result (text.new.items ≡ text.old.items ++ line (stop_words refusal place)) }
 {
     text.push(b'X')?;
-    push_number(text, u64::from(refusal.number()))?;
+    push_number(text, u64::from(u8::from(refusal)))?;
     push_number(text, place as u64)?;
     text.push(b'\n')?;
     Ok(())

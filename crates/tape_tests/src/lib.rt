@@ -11,11 +11,10 @@ mod tests {
     use terms::message::Message;
 
     // How a number reads: its value and how many bytes are left, or the refusal's number.
-    fn number_as(bytes: &[u8]) -> (u32, usize) {
-        match read_number(bytes) {
-            Ok((n, rest)) => (n, rest.len()),
-            Err(refusal) => (u32::from(refusal.number()), 99),
-        }
+    fn number_as(bytes: &[u8]) -> Result<(u32, usize), u8> {
+        read_number(bytes)
+            .map(|(n, rest)| (n, rest.len()))
+            .map_err(u8::from)
     }
 
     #[test]
@@ -53,24 +52,20 @@ mod tests {
 
     #[test]
     fn numbers(rt: HostRuntime) {
-        assert_eq!(rt; number_as(b""), (2, 99));
-        assert_eq!(rt; number_as(b"\x80"), (2, 99));
-        assert_eq!(rt; number_as(b"\x80\x80\x80"), (2, 99));
-        assert_eq!(rt; number_as(b"\x80\x00"), (4, 99));
-        assert_eq!(rt; number_as(b"\x80\x80\x80\x80"), (4, 99));
-        assert_eq!(rt; number_as(b"\x00\x07"), (0, 1));
-        assert_eq!(rt; number_as(b"\xe8\x07\x01"), (1_000, 1));
-        assert_eq!(rt; number_as(b"\xff\xff\xff\x7f"), (268_435_455, 0));
+        assert_eq!(rt; number_as(b""), Err(2));
+        assert_eq!(rt; number_as(b"\x80"), Err(2));
+        assert_eq!(rt; number_as(b"\x80\x80\x80"), Err(2));
+        assert_eq!(rt; number_as(b"\x80\x00"), Err(4));
+        assert_eq!(rt; number_as(b"\x80\x80\x80\x80"), Err(4));
+        assert_eq!(rt; number_as(b"\x00\x07"), Ok((0, 1)));
+        assert_eq!(rt; number_as(b"\xe8\x07\x01"), Ok((1_000, 1)));
+        assert_eq!(rt; number_as(b"\xff\xff\xff\x7f"), Ok((268_435_455, 0)));
     }
 
     #[test]
     fn set_up_of_the_sample(rt: HostRuntime) -> Result<(), Fail> {
-        let (setup, rest) = match read_setup(
-            b"\x01\x01\x64\x01\xe8\x07\x01\xa0\x8d\x06\x00\x00\x51",
-        ) {
-            Ok(read) => read,
-            Err(_) => return Err(Fail::new("refused")),
-        };
+        let bytes = b"\x01\x01\x64\x01\xe8\x07\x01\xa0\x8d\x06\x00\x00\x51";
+        let (setup, rest) = read_setup(bytes).map_err(|_| Fail::new("refused"))?;
         assert_eq!(rt; rest.len(), 1);
         assert_eq!(rt; setup.instrument.quote_lots.greatest, 1_000);
         assert_eq!(rt; setup.day.greatest, 100_000);
@@ -79,14 +74,12 @@ mod tests {
 
     #[test]
     fn quote_of_the_sample(rt: HostRuntime) -> Result<(), Fail> {
-        match read_message(b"\x51\x64\x32\x68\x32\x42") {
-            Ok((Message::Quote(q), rest)) => {
-                assert_eq!(rt; rest.len(), 1);
-                assert_eq!(rt; (q.bid_price, q.bid_lots), (100, 50));
-                assert_eq!(rt; (q.ask_price, q.ask_lots), (104, 50));
-                Ok(())
-            }
-            _ => Err(Fail::new("no quote")),
-        }
+        let Ok((Message::Quote(q), rest)) = read_message(b"\x51\x64\x32\x68\x32\x42") else {
+            return Err(Fail::new("no quote"));
+        };
+        assert_eq!(rt; rest.len(), 1);
+        assert_eq!(rt; (q.bid_price, q.bid_lots), (100, 50));
+        assert_eq!(rt; (q.ask_price, q.ask_lots), (104, 50));
+        Ok(())
     }
 }

@@ -1,7 +1,7 @@
 -- A set-up and its nine numbers determine each other, inside the limits.
 use Rattle.std.proofs.Common.{◌≡◌, ℕ, zero, suc, true, ◌&&◌, leb, List, [], ◌∷◌, length, get_or, Some, None, Ok, Err, Option, Result, sym, refl, ap, ◌∙◌, ⊎_elim, arith}
 use Rattle.std.proofs.lemmas.Bool.{cases_Bool, cond-true, cond-false, and_parts, and_from, leb-true, le-leb}
-use Rattle.terms.specs.Setups.{SpanIn, Allowed, within, span_allowed, instrument_allowed, instrument_from, day_from, setup_with, setup_from, setup_numbers}
+use Rattle.terms.specs.Setups.{SpanIn, Allowed, within, span_allowed, instrument_allowed, instrument_from, day_from, setup_with, setup_from, setup_numbers, IsSetupFrom}
 use Rattle.terms.specs.Values.{make_number, make_of, market_number, market_of}
 use Rattle.terms.specs.declared.letter.Make.{Make}
 use Rattle.terms.specs.declared.letter.Make.TheVariants.{Sorted, Heaps}
@@ -96,9 +96,11 @@ market_back Stock = refl
 pub setup_back : (s : Setup) → Allowed s → setup_from (setup_numbers s) ≡ Ok s
 setup_back s h = rw (allowed_test s h, make_back s.make, market_back s.market)
 
--- the two laws, of whatever is equal to the set-up from ns
-pub accepted : (ns : List ℕ) (r : Result Setup Refusal) → r ≡ setup_from ns → (s : Setup) → Allowed s → setup_numbers s ≡ ns → r ≡ Ok s
-accepted ns r e s h n = e ∙ ap setup_from (sym n) ∙ setup_back s h
-
-pub accepted_only : (ns : List ℕ) (r : Result Setup Refusal) → length ns ≡ 9 → r ≡ setup_from ns → (s : Setup) → r ≡ Ok s → Allowed s × (setup_numbers s ≡ ns)
-accepted_only ns r nine e s q = setup_only ns s nine (sym e ∙ q)
+-- whatever is equal to the set-up from ns
+pub is_setup_from : (ns : List ℕ) (r : Result Setup Refusal) → length ns ≡ 9 → r ≡ setup_from ns → IsSetupFrom ns r
+is_setup_from ns r nine e =
+    record {
+      value = e;
+      accepts = λ s h n. e ∙ ap setup_from (sym n) ∙ setup_back s h;
+      only = λ s q. setup_only ns s nine (sym e ∙ q);
+    }

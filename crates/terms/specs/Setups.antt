@@ -1,5 +1,5 @@
 -- Which set-ups are allowed, and the nine numbers that a tape gives for one.
-use Rattle.std.specs.Prelude.{ℕ, ◌≤◌, Bool, cond, ◌&&◌, List, [], ◌∷◌, Some, None, Ok, Err, Option, Result, nat_le, slice_index}
+use Rattle.std.specs.Prelude.{◌≡◌, ℕ, ◌≤◌, Bool, cond, ◌&&◌, List, [], ◌∷◌, Some, None, Ok, Err, Option, Result, nat_le, slice_index}
 use Rattle.terms.specs.declared.letter.Make.{Make}
 use Rattle.terms.specs.declared.letter.Market.{Market}
 use Rattle.terms.specs.declared.refusal.Refusal.{Refusal}
@@ -62,3 +62,9 @@ setup_numbers s =
     s.instrument.tick ∷ (s.instrument.spread.least ∷ (s.instrument.spread.greatest
     ∷ (s.instrument.quote_lots.least ∷ (s.instrument.quote_lots.greatest ∷ (s.day.least ∷ (s.day.greatest
     ∷ (make_number s.make ∷ (market_number s.market ∷ []))))))))
+
+-- what is made of nine numbers: each allowed set-up from its own numbers, and no other
+pub record IsSetupFrom (ns : List ℕ) (r : Result Setup Refusal) : Type 0 where
+  pub value : r ≡ setup_from ns
+  pub accepts : (s : Setup) → Allowed s → setup_numbers s ≡ ns → r ≡ Ok s
+  pub only : (s : Setup) → r ≡ Ok s → Allowed s × (setup_numbers s ≡ ns)

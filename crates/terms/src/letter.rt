@@ -1,6 +1,11 @@
 // The letters of a tape's messages, and the two numbers of its set-up that choose a kind.
 ghost use Rattle.std.specs.Prelude.{◌≡◌, Some};
+ghost use Rattle.std.specs.Option.{ok_or};
+ghost use Rattle.terms.specs.declared.refusal.Refusal.TheVariants.{OutsideLimits, UnknownLetter};
 ghost use Rattle.terms.specs.Values.{letter_byte, letter_of, make_number, make_of, market_number, market_of};
+
+use crate::refusal::Refusal;
+use std::convert::TryFrom;
 
 #[derive(Clone, Copy, Debug, PartialEq, Eq)]
 pub enum Letter {
@@ -17,32 +22,35 @@ pub enum Letter {
     End = b'E' as isize,
 }
 
-impl Letter {
-    // The byte that stands for the letter on a tape.
-    pub fn byte(self) -> u8
-        ensures value { result ≡ letter_byte self }
-        ensures reads_back { letter_of result ≡ Some self }
-    {
-        self as u8
-    }
+// The byte that stands for the letter on a tape, which reads back as the letter.
+impl From<Letter> for u8 {
+    ghost from_gives = { λ letter byte. (byte ≡ letter_byte letter) × (letter_of byte ≡ Some letter) };
 
-    // The letter that a byte stands for, if any.
-    pub fn from_byte(byte: u8) -> Option<Letter>
-        ensures { result ≡ letter_of byte }
-    {
+    fn from(letter: Letter) -> u8 {
+        letter as u8
+    }
+}
+
+// The letter that a byte stands for, or a refusal where it stands for none.
+impl TryFrom<u8> for Letter {
+    type Error = Refusal;
+
+    ghost try_from_gives = { λ byte r. r ≡ ok_or (letter_of byte) UnknownLetter };
+
+    fn try_from(byte: u8) -> Result<Letter, Refusal> {
         match byte {
-            b'B' => Some(Letter::Buy),
-            b'S' => Some(Letter::Sell),
-            b'I' => Some(Letter::ImmediateBuy),
-            b'J' => Some(Letter::ImmediateSell),
-            b'A' => Some(Letter::Change),
-            b'C' => Some(Letter::Cancel),
-            b'Q' => Some(Letter::Quote),
-            b'R' => Some(Letter::Renew),
-            b'H' => Some(Letter::Halt),
-            b'U' => Some(Letter::Resume),
-            b'E' => Some(Letter::End),
-            _ => None,
+            b'B' => Ok(Letter::Buy),
+            b'S' => Ok(Letter::Sell),
+            b'I' => Ok(Letter::ImmediateBuy),
+            b'J' => Ok(Letter::ImmediateSell),
+            b'A' => Ok(Letter::Change),
+            b'C' => Ok(Letter::Cancel),
+            b'Q' => Ok(Letter::Quote),
+            b'R' => Ok(Letter::Renew),
+            b'H' => Ok(Letter::Halt),
+            b'U' => Ok(Letter::Resume),
+            b'E' => Ok(Letter::End),
+            _ => Err(Refusal::UnknownLetter),
         }
     }
 }
@@ -54,23 +62,26 @@ pub enum Make {
     Heaps = 1,
 }
 
-impl Make {
-    // The number that stands for the make in a set-up.
-    pub fn number(self) -> u32
-        ensures value { result ≡ make_number self }
-        ensures reads_back { make_of result ≡ Some self }
-    {
-        self as u32
-    }
+// The number that stands for the make in a set-up, which reads back as the make.
+impl From<Make> for u32 {
+    ghost from_gives = { λ make number. (number ≡ make_number make) × (make_of number ≡ Some make) };
 
-    // The make that a number stands for, if any.
-    pub fn from_number(number: u32) -> Option<Make>
-        ensures { result ≡ make_of number }
-    {
+    fn from(make: Make) -> u32 {
+        make as u32
+    }
+}
+
+// The make that a number stands for, or a refusal where it stands for none.
+impl TryFrom<u32> for Make {
+    type Error = Refusal;
+
+    ghost try_from_gives = { λ number r. r ≡ ok_or (make_of number) OutsideLimits };
+
+    fn try_from(number: u32) -> Result<Make, Refusal> {
         match number {
-            0 => Some(Make::Sorted),
-            1 => Some(Make::Heaps),
-            _ => None,
+            0 => Ok(Make::Sorted),
+            1 => Ok(Make::Heaps),
+            _ => Err(Refusal::OutsideLimits),
         }
     }
 }
@@ -82,23 +93,26 @@ pub enum Market {
     Stock = 1,
 }
 
-impl Market {
-    // The number that stands for the market in a set-up.
-    pub fn number(self) -> u32
-        ensures value { result ≡ market_number self }
-        ensures reads_back { market_of result ≡ Some self }
-    {
-        self as u32
-    }
+// Not one with the impls of Make: a trait of such types would have these same members in each of its impls.
+impl From<Market> for u32 {
+    ghost from_gives = { λ market number. (number ≡ market_number market) × (market_of number ≡ Some market) };
 
-    // The market that a number stands for, if any.
-    pub fn from_number(number: u32) -> Option<Market>
-        ensures { result ≡ market_of number }
-    {
+    fn from(market: Market) -> u32 {
+        market as u32
+    }
+}
+
+// The market that a number stands for, or a refusal where it stands for none.
+impl TryFrom<u32> for Market {
+    type Error = Refusal;
+
+    ghost try_from_gives = { λ number r. r ≡ ok_or (market_of number) OutsideLimits };
+
+    fn try_from(number: u32) -> Result<Market, Refusal> {
         match number {
-            0 => Some(Market::Warrant),
-            1 => Some(Market::Stock),
-            _ => None,
+            0 => Ok(Market::Warrant),
+            1 => Ok(Market::Stock),
+            _ => Err(Refusal::OutsideLimits),
         }
     }
 }

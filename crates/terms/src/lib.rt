@@ -4,6 +4,7 @@
 pub mod letter;
 pub mod limits;
 pub mod message;
+pub mod numbers;
 pub mod refusal;
 pub mod setup;
 pub mod side;

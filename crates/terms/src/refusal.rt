@@ -52,11 +52,11 @@ pub enum Refusal {
     ListingTooLong = 23,
 }
 
-impl Refusal {
-    // The number under which a caller sees the refusal.
-    pub fn number(self) -> u8
-        ensures { result ≡ refusal_number self }
-    {
-        self as u8
+// The number under which a caller sees the refusal.
+impl From<Refusal> for u8 {
+    ghost from_gives = { λ refusal number. number ≡ refusal_number refusal };
+
+    fn from(refusal: Refusal) -> u8 {
+        refusal as u8
     }
 }

@@ -1,11 +1,11 @@
 // What a tape says before its first message.
-ghost use Rattle.std.specs.Prelude.{◌≡◌, Ok};
-ghost use Rattle.terms.specs.declared.setup.Setup.{Setup as AnySetup};
-ghost use Rattle.terms.specs.Setups.{Allowed, span_allowed, instrument_allowed, setup_from, setup_numbers};
+ghost use Rattle.std.specs.Prelude.{◌≡◌};
+ghost use Rattle.terms.specs.Setups.{IsSetupFrom, span_allowed, instrument_allowed, setup_numbers};
 
 use crate::letter::{Make, Market};
 use crate::limits::{LOTS_MAX, PRICE_MAX, TICK_MAX};
 use crate::refusal::Refusal;
+use std::convert::TryFrom;
 
 // A least and a greatest number.
 #[derive(Clone, Copy, Debug, PartialEq, Eq)]
@@ -25,7 +25,7 @@ impl Span {
     pub fn is_allowed(&self, max: u32) -> bool
         ensures { result ≡ span_allowed max self.now }
     {
-        1 <= self.least && self.least <= self.greatest && self.greatest <= max
+        (1..=self.greatest).contains(&self.least) && self.greatest <= max
     }
 }
 
@@ -44,8 +44,7 @@ impl Instrument {
     pub fn is_allowed(&self) -> bool
         ensures { result ≡ instrument_allowed self.now }
     {
-        1 <= self.tick
-            && self.tick <= TICK_MAX
+        (1..=TICK_MAX).contains(&self.tick)
             && self.spread.is_allowed(PRICE_MAX)
             && self.quote_lots.is_allowed(LOTS_MAX)
     }
@@ -60,13 +59,13 @@ pub struct Setup {
     pub market: Market,
 }
 
-impl Setup {
-    // The set-up with these nine numbers, in a tape's order, or a refusal where one is outside its limits.
-    pub fn from_numbers(numbers: [u32; 9]) -> Result<Setup, Refusal>
-        ensures value { result ≡ setup_from numbers }
-        ensures accepts { (s : AnySetup) → Allowed s → setup_numbers s ≡ numbers → result ≡ Ok s }
-        ensures only { (s : AnySetup) → result ≡ Ok s → Allowed s × (setup_numbers s ≡ numbers) }
-    {
+// The set-up with these nine numbers, in a tape's order, or a refusal where one is outside its limits.
+impl TryFrom<[u32; 9]> for Setup {
+    type Error = Refusal;
+
+    ghost try_from_gives = { IsSetupFrom };
+
+    fn try_from(numbers: [u32; 9]) -> Result<Setup, Refusal> {
         let [
             tick,
             least,
@@ -78,38 +77,37 @@ impl Setup {
             make,
             market,
         ] = numbers;
-        let spread = Span::new(least, greatest);
-        let quote_lots = Span::new(few, many);
         let instrument = Instrument {
             tick,
-            spread,
-            quote_lots,
+            spread: Span::new(least, greatest),
+            quote_lots: Span::new(few, many),
         };
         let day = Span::new(floor, ceiling);
         if !instrument.is_allowed() || !day.is_allowed(PRICE_MAX) {
             return Err(Refusal::OutsideLimits);
         }
-        match (Make::from_number(make), Market::from_number(market)) {
-            (Some(make), Some(market)) => Ok(Setup {
-                instrument,
-                day,
-                make,
-                market,
-            }),
-            _ => Err(Refusal::OutsideLimits),
-        }
+        let make = Make::try_from(make)?;
+        let market = Market::try_from(market)?;
+        Ok(Setup {
+            instrument,
+            day,
+            make,
+            market,
+        })
     }
+}
 
-    // Its nine numbers, in a tape's order.
-    pub fn numbers(&self) -> [u32; 9]
-        ensures { result ≡ setup_numbers self.now }
-    {
+// The nine numbers of a set-up, in a tape's order.
+impl From<Setup> for [u32; 9] {
+    ghost from_gives = { λ setup numbers. numbers ≡ setup_numbers setup };
+
+    fn from(setup: Setup) -> [u32; 9] {
         let Instrument {
             tick,
             spread,
             quote_lots,
-        } = self.instrument;
-        let day = self.day;
+        } = setup.instrument;
+        let day = setup.day;
         [
             tick,
             spread.least,
@@ -118,8 +116,8 @@ impl Setup {
             quote_lots.greatest,
             day.least,
             day.greatest,
-            self.make.number(),
-            self.market.number(),
+            u32::from(setup.make),
+            u32::from(setup.market),
         ]
     }
 }

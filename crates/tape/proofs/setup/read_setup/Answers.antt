@@ -1,57 +1,29 @@
-use Rattle.std.proofs.Common.{◌≡◌, ℕ, ◌<◌, List, ◌++◌, get_or, Ok, Result, sym, ap, ◌∙◌, arith}
-use Rattle.std.proofs.lemmas.Result.{err_from_is_err_and}
-use Rattle.terms.specs.Setups.{Allowed, setup_numbers}
+use Rattle.std.proofs.Common.{◌≡◌, List, ℕ, ◌++◌, Ok, Result, sym, ap, ◌∙◌, arith}
+use Rattle.std.proofs.lemmas.Grind.{common_steps}
+use Rattle.terms.specs.Setups.{Allowed}
 use Rattle.terms.specs.declared.refusal.Refusal.{Refusal}
 use Rattle.terms.specs.declared.setup.Setup.{Setup}
-use Rattle.tape.specs.Numbers.{Encodable}
-use Rattle.tape.specs.Setups.{before, tested, read_setup, encoded_setup}
+use Rattle.tape.specs.Numbers.{seen}
+use Rattle.tape.specs.Setups.{read_setup, encoded_setup}
 use Rattle.tape.proofs.Inverses.{setup_reads, setup_only, setup_followed}
 use Rattle.tape.proofs.setup.read_setup.Goals as goal
 
--- the laws, of whatever was read from bs
-module _ (bs : List ℕ) (fits : (i : ℕ) → get_or bs i 0 < 256) (r : Result (Setup × List ℕ) Refusal) (reads : r ≡ read_setup bs) where
-  back : (s : Setup) (rest : List ℕ) → Allowed s → bs ≡ encoded_setup s ++ rest → r ≡ Ok (s, rest)
-  back s rest h e = reads ∙ ap read_setup e ∙ setup_reads s rest h
+back : (bs : List ℕ) (r : Result (Setup × List ℕ) Refusal) → r ≡ read_setup bs → (s : Setup) (rest : List ℕ) → Allowed s → bs ≡ encoded_setup s ++ rest → r ≡ Ok (s, rest)
+back bs r reads s rest h e = reads ∙ ap read_setup e ∙ setup_reads s rest h
 
-  only : (s : Setup) (rest : List ℕ) → r ≡ Ok (s, rest) → Encodable (setup_numbers s) × (bs ≡ encoded_setup s ++ rest)
-  only s rest e = setup_only bs s rest fits (sym reads ∙ e)
+pub returns-in_err-numbers-clause-gives_back : goal.returns-in_err-numbers-clause-gives_back
+returns-in_err-numbers-clause-gives_back c = back c.args.bytes.now (seen c.from_residual.result) (grind (arith, common_steps))
 
-  followed : (s : Setup) (rest more : List ℕ) → r ≡ Ok (s, rest) → read_setup (bs ++ more) ≡ Ok (s, rest ++ more)
-  followed s rest more e = setup_followed bs s rest more fits (sym reads ∙ e)
-
-pub returns-in_err-numbers : goal.returns-in_err-numbers
-returns-in_err-numbers c =
-    let p = err_from_is_err_and c.from_residual.result c.from_residual.ensures.1 in
-    let bs = c.args.bytes.now in
-    let reads = ap tested c.in_err-numbers.ensures.reads in
-    rw (p.1, p.2)
-    (record {
-      reads = reads;
-      gives_back = back bs (λ i. omega (arith, c.type_inv.bytes i)) _ reads;
-      only = only bs (λ i. omega (arith, c.type_inv.bytes i)) _ reads;
-      followed = followed bs (λ i. omega (arith, c.type_inv.bytes i)) _ reads;
-    })
-
-pub returns-in_err-setup : goal.returns-in_err-setup
-returns-in_err-setup c =
-    let p = err_from_is_err_and c.from_residual-in_err-setup.result c.from_residual-in_err-setup.ensures.1 in
-    let bs = c.args.bytes.now in
-    let reads = ap (λ r. before r c.in_ok-numbers.rest.now) c.in_err-setup.ensures.value ∙ ap tested c.in_ok-numbers.ensures.reads in
-    rw (p.1, p.2)
-    (record {
-      reads = reads;
-      gives_back = back bs (λ i. omega (arith, c.type_inv.bytes i)) _ reads;
-      only = only bs (λ i. omega (arith, c.type_inv.bytes i)) _ reads;
-      followed = followed bs (λ i. omega (arith, c.type_inv.bytes i)) _ reads;
-    })
+pub returns-in_err-setup-clause-gives_back : goal.returns-in_err-setup-clause-gives_back
+returns-in_err-setup-clause-gives_back c = back c.args.bytes.now (seen c.from_residual-in_err-setup.result) (grind (arith, common_steps))
 
 pub returns : goal.returns
 returns c =
     let bs = c.args.bytes.now in
-    let reads = ap (λ r. before r c.in_ok-numbers.rest.now) c.in_ok-setup.ensures.value ∙ ap tested c.in_ok-numbers.ensures.reads in
+    let read : ◌≡◌ {A = Result (Setup × List ℕ) Refusal} (Ok (c.in_ok-setup.setup, c.in_ok-numbers.rest.now)) (read_setup bs) = grind (arith, common_steps) in
     record {
-      reads = reads;
-      gives_back = back bs (λ i. omega (arith, c.type_inv.bytes i)) _ reads;
-      only = only bs (λ i. omega (arith, c.type_inv.bytes i)) _ reads;
-      followed = followed bs (λ i. omega (arith, c.type_inv.bytes i)) _ reads;
+      reads = read;
+      gives_back = back bs _ read;
+      only = λ s rest e. setup_only bs s rest (λ i. omega (arith, c.type_inv.bytes i)) (sym read ∙ e);
+      followed = λ s rest more e. setup_followed bs s rest more (λ i. omega (arith, c.type_inv.bytes i)) (sym read ∙ e);
     }

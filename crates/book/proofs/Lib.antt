@@ -2,3 +2,4 @@ pub mod Sides
 pub mod Changes
 pub mod Replies
 pub mod Plays
+pub mod Refusing

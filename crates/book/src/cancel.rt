@@ -9,7 +9,7 @@ ghost use Rattle.rules.specs.Checks.{allows};
 ghost use Rattle.rules.specs.Keeps.{Keeps};
 ghost use Rattle.book.specs.Books.{book_of, trading_book, halted_book, outcome_of};
 
-use crate::checks::bad_member;
+use crate::checks::{check_member, refuse_if};
 use crate::find::{find_order, take_on};
 use crate::phase::{Halted, Trading};
 use orders::order::{BuyOrder, SellOrder};
@@ -28,15 +28,9 @@ fn cancel_order<B: Queue<BuyOrder>, S: Queue<SellOrder>>(
     ensures keeps { (B.Queue.lawful buys.old → B.Queue.lawful buys.new) × (S.Queue.lawful sells.old → S.Queue.lawful sells.new) }
     ensures cancels { B.Queue.lawful buys.old → S.Queue.lawful sells.old → ((p : AnyPhase) (terms : AnyInstrument) (next : ℕ) (quote : AnyOption AnyQuoted) (range : Answers) → allows p (calls.cancel cancel) ≡ true → ByRule (calls.cancel cancel) (book_of p terms next quote (B.Queue.held buys.old) (S.Queue.held sells.old) range) (outcome_of result) [] [] (book_of p terms next quote (B.Queue.held buys.new) (S.Queue.held sells.new) range)) }
 {
-    if bad_member(cancel.member) {
-        return Err(Refusal::BadMember);
-    }
-    let Some(found) = find_order(cancel.order, buys, sells) else {
-        return Err(Refusal::NotResting);
-    };
-    if found.order.member != cancel.member {
-        return Err(Refusal::NotOwner);
-    }
+    check_member(cancel.member)?;
+    let found = find_order(cancel.order, buys, sells).ok_or(Refusal::NotResting)?;
+    refuse_if(found.order.member != cancel.member, Refusal::NotOwner)?;
     take_on(found.side, cancel.order, buys, sells);
     Ok(Answer {
         number: cancel.order,

@@ -13,7 +13,9 @@ ghost use Rattle.rules.specs.Keeps.{Keeps};
 ghost use Rattle.book.specs.Books.{book_of, waiting_book, trading_book, outcome_of, quote_outcome, quote_book};
 ghost use Rattle.book.specs.Matching.{plain_buys, plain_sells};
 
-use crate::checks::{bad_lots, bad_price, bad_quote_lots, bad_spread, short_table, turns_used_up};
+use crate::checks::{
+    check_lots, check_price, check_quote_lots, check_spread, check_table, check_turns, refuse_if,
+};
 use crate::lots::traded_lots;
 use crate::phase::{Trading, Waiting};
 use crate::side::{holds_leg, is_full_without, is_taken, lots_under, take_leg};
@@ -31,20 +33,14 @@ use terms::trade::{Answer, Trade};
 fn bid_of(quote: Option<Quoted>) -> Option<u32>
     ensures { result ≡ bid_of quote }
 {
-    match quote {
-        Some(q) => Some(q.bid),
-        None => None,
-    }
+    quote.map(|q| q.bid)
 }
 
 // The number of its ask leg.
 fn ask_of(quote: Option<Quoted>) -> Option<u32>
     ensures { result ≡ ask_of quote }
 {
-    match quote {
-        Some(q) => Some(q.ask),
-        None => None,
-    }
+    quote.map(|q| q.ask)
 }
 
 // Two turns are left, each side has a place for its leg, and the turns are free; the old legs count as gone.
@@ -57,17 +53,16 @@ fn check_legs<B: Queue<BuyOrder>, S: Queue<SellOrder>>(
     ensures answers { B.Queue.lawful buys.now → S.Queue.lawful sells.now → result ≡ answer (first_of (leg_checks next old (plain_buys (B.Queue.held buys.now)) (plain_sells (S.Queue.held sells.now)))) }
     ensures turns { OnOk result (next + 2 ≤ 1000001) }
 {
-    if turns_used_up(next, 2) {
-        return Err(Refusal::TurnsUsedUp);
-    }
+    check_turns(next, 2)?;
     let (bid, ask) = (bid_of(old), ask_of(old));
-    if is_full_without(Side::Buy, buys, bid) || is_full_without(Side::Sell, sells, ask) {
-        return Err(Refusal::QueueFull);
-    }
-    if is_taken(Side::Buy, buys, next, bid) || is_taken(Side::Sell, sells, next + 1, ask) {
-        return Err(Refusal::AlreadyHeld);
-    }
-    Ok(())
+    refuse_if(
+        is_full_without(Side::Buy, buys, bid) || is_full_without(Side::Sell, sells, ask),
+        Refusal::QueueFull,
+    )?;
+    refuse_if(
+        is_taken(Side::Buy, buys, next, bid) || is_taken(Side::Sell, sells, next + 1, ask),
+        Refusal::AlreadyHeld,
+    )
 }
 
 // The tests of a quote, in their order.
@@ -84,21 +79,13 @@ fn check_quote<B: Queue<BuyOrder>, S: Queue<SellOrder>>(
     ensures sound { OnOk result ((B.Queue.lawful buys.now → Sound buy_rank (B.Queue.held buys.now)) × (S.Queue.lawful sells.now → Sound sell_rank (S.Queue.held sells.now))) }
     ensures turns { OnOk result (next + 2 ≤ 1000001) }
 {
-    if bad_price(terms, entry.bid_price) || bad_price(terms, entry.ask_price) {
-        return Err(Refusal::BadPrice);
-    }
-    if bad_lots(entry.bid_lots) || bad_lots(entry.ask_lots) {
-        return Err(Refusal::BadLots);
-    }
-    if bad_spread(terms, entry) {
-        return Err(Refusal::BadSpread);
-    }
-    if bad_quote_lots(terms, entry) {
-        return Err(Refusal::BadQuoteLots);
-    }
-    if short_table(places, buys.capacity(), sells.capacity()) {
-        return Err(Refusal::ShortTradeTable);
-    }
+    check_price(terms, entry.bid_price)?;
+    check_price(terms, entry.ask_price)?;
+    check_lots(entry.bid_lots)?;
+    check_lots(entry.ask_lots)?;
+    check_spread(terms, entry)?;
+    check_quote_lots(terms, entry)?;
+    check_table(places, buys.capacity(), sells.capacity())?;
     check_legs(next, old, buys, sells)
 }
 
@@ -114,13 +101,12 @@ fn check_renewal<B: Queue<BuyOrder>, S: Queue<SellOrder>>(
     ensures sound { OnOk result ((B.Queue.lawful buys.now → Sound buy_rank (B.Queue.held buys.now)) × (S.Queue.lawful sells.now → Sound sell_rank (S.Queue.held sells.now))) }
     ensures turns { OnOk result (next + 2 ≤ 1000001) }
 {
-    if short_table(places, buys.capacity(), sells.capacity()) {
-        return Err(Refusal::ShortTradeTable);
-    }
+    check_table(places, buys.capacity(), sells.capacity())?;
     let (bid, ask) = (Some(old.bid), Some(old.ask));
-    if holds_leg(Side::Buy, buys, bid) && holds_leg(Side::Sell, sells, ask) {
-        return Err(Refusal::QuoteRests);
-    }
+    refuse_if(
+        holds_leg(Side::Buy, buys, bid) && holds_leg(Side::Sell, sells, ask),
+        Refusal::QuoteRests,
+    )?;
     check_legs(next, Some(*old), buys, sells)
 }
 

@@ -2,20 +2,16 @@ use Rattle.std.proofs.Common.{◌≡◌, ◌+◌, false, ◌&&◌, ltb, sym, ref
 use Rattle.rules.specs.Checks.{first_of, found_checks, change_checks, found, is_trading}
 use Rattle.book.specs.Books.{book_of}
 use Rattle.book.specs.Changes.{phase_in, band_in, Checked}
+use Rattle.book.proofs.Refusing.{passes}
 use Rattle.book.proofs.change_checks.check_change.Goals as goal
 
-pub returns : goal.returns
-returns g c =
+pub returns-clause-answers : goal.returns-clause-answers
+returns-clause-answers g c l k quote =
     let s = c.args.setting in
     let change = c.args.change.now in
     let buys = g.B.Queue.held c.args.buys.now in
     let sells = g.S.Queue.held c.args.sells.now in
-    let long : (is_trading (phase_in s) && ltb c.args.places (buys.capacity + sells.capacity)) ≡ false = sym ((λ i. is_trading (phase_in s) && ltb c.args.places (c.capacity.ensures.holds i + c.capacity-2.ensures.holds i))) ∙ sym c.if-is_short.ensures in
-    record {
-      answers = λ l k quote.
-          let b = book_of (phase_in s) c.args.terms.now c.args.next quote buys sells (λ us. band_in s) in
-          let same : first_of (change_checks change c.args.places b) ≡ first_of (found_checks change (found b change.order) b) = rw (sym c.if-bad_member.ensures, sym c.if-bad_price.ensures, sym c.if-bad_lots.ensures, long) refl in
-          subst (Checked c.check_found.result (found b change.order)) (sym same) (c.check_found.ensures.answers l k c.args.terms.now quote);
-      sound = c.check_found.ensures.sound;
-      turns = c.check_found.ensures.turns;
-    }
+    let b = book_of (phase_in s) c.args.terms.now c.args.next quote buys sells (λ us. band_in s) in
+    let long : (is_trading (phase_in s) && ltb c.args.places (buys.capacity + sells.capacity)) ≡ false = sym ((λ i. is_trading (phase_in s) && ltb c.args.places (c.capacity.ensures.holds i + c.capacity-2.ensures.holds i))) ∙ passes _ _ c.in_ok-check_places.ensures in
+    let same : first_of (change_checks change c.args.places b) ≡ first_of (found_checks change (found b change.order) b) = rw (passes _ _ c.in_ok-check_member.ensures, passes _ _ c.in_ok-check_price.ensures, passes _ _ c.in_ok-check_lots.ensures, long) refl in
+    subst (Checked c.check_found.result (found b change.order)) (sym same) (c.check_found.ensures.answers l k c.args.terms.now quote)

@@ -3,3 +3,4 @@ pub mod Changes
 pub mod Replies
 pub mod Plays
 pub mod Refusing
+pub mod Allowed

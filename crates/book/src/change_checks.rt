@@ -12,13 +12,13 @@ ghost use Rattle.book.specs.Refusing.{refused_if};
 
 use crate::checks::{check_lots, check_member, check_price, check_table, check_turns, refuse_if};
 use crate::find::find_order;
+use crate::phase::{Book, DayPhase};
 use crate::side::is_taken;
 use orders::order::{BuyOrder, Found, Order, SellOrder};
 use price_range::band::Band;
 use queue::Queue;
 use terms::message::OrderChange;
 use terms::refusal::Refusal;
-use terms::setup::Instrument;
 use terms::side::Side;
 
 // Where an order is changed: while trading, at these prices, or in a halt.
@@ -99,48 +99,49 @@ fn is_turn_taken<B: Queue<BuyOrder>, S: Queue<SellOrder>>(
     }
 }
 
-// The order rests, it is the member's, it does not rise, and the turn that it takes is left and free.
-fn check_found<B: Queue<BuyOrder>, S: Queue<SellOrder>>(
-    setting: Setting,
-    next: u32,
-    change: &OrderChange,
-    buys: &B,
-    sells: &S,
-) -> Result<Found, Refusal>
-    ensures answers { B.Queue.lawful buys.now → S.Queue.lawful sells.now → ((terms : AnyInstrument) (quote : AnyOption AnyQuoted) → Checked result (found_of (book_of (phase_in setting) terms next quote (B.Queue.held buys.now) (S.Queue.held sells.now) (λ us. band_in setting)) change.now.order) (first_of (found_checks change.now (found_of (book_of (phase_in setting) terms next quote (B.Queue.held buys.now) (S.Queue.held sells.now) (λ us. band_in setting)) change.now.order) (book_of (phase_in setting) terms next quote (B.Queue.held buys.now) (S.Queue.held sells.now) (λ us. band_in setting))))) }
-    ensures sound { OnOk result ((B.Queue.lawful buys.now → Sound buy_rank (B.Queue.held buys.now)) × (S.Queue.lawful sells.now → Sound sell_rank (S.Queue.held sells.now))) }
-    ensures turns { IfOk result (λ f. keeps_place change.now f.order ≡ false → next + 1 ≤ 1000001) }
-{
-    let found = find_order(change.order, buys, sells).ok_or(Refusal::NotResting)?;
-    refuse_if(found.order.member != change.member, Refusal::NotOwner)?;
-    check_rise(setting, change, &found)?;
-    if !keeps_place(change, &found.order) {
-        check_turns(next, 1)?;
-        refuse_if(
-            is_turn_taken(next, &found, buys, sells),
-            Refusal::AlreadyHeld,
-        )?;
+impl<P: DayPhase> Book<P> {
+    // The order rests, it is the member's, it does not rise, and the turn that it takes is left and free.
+    fn check_found<B: Queue<BuyOrder>, S: Queue<SellOrder>>(
+        &self,
+        setting: Setting,
+        change: &OrderChange,
+        buys: &B,
+        sells: &S,
+    ) -> Result<Found, Refusal>
+        ensures answers { B.Queue.lawful buys.now → S.Queue.lawful sells.now → Checked result (found_of (book_of (phase_in setting) self.now.terms self.now.next (P.last self.now.phase) (B.Queue.held buys.now) (S.Queue.held sells.now) (λ us. band_in setting)) change.now.order) (first_of (found_checks change.now (found_of (book_of (phase_in setting) self.now.terms self.now.next (P.last self.now.phase) (B.Queue.held buys.now) (S.Queue.held sells.now) (λ us. band_in setting)) change.now.order) (book_of (phase_in setting) self.now.terms self.now.next (P.last self.now.phase) (B.Queue.held buys.now) (S.Queue.held sells.now) (λ us. band_in setting)))) }
+        ensures sound { OnOk result ((B.Queue.lawful buys.now → Sound buy_rank (B.Queue.held buys.now)) × (S.Queue.lawful sells.now → Sound sell_rank (S.Queue.held sells.now))) }
+        ensures turns { IfOk result (λ f. keeps_place change.now f.order ≡ false → self.now.next + 1 ≤ 1000001) }
+    {
+        let found = find_order(change.order, buys, sells).ok_or(Refusal::NotResting)?;
+        refuse_if(found.order.member != change.member, Refusal::NotOwner)?;
+        check_rise(setting, change, &found)?;
+        if !keeps_place(change, &found.order) {
+            check_turns(self.next, 1)?;
+            refuse_if(
+                is_turn_taken(self.next, &found, buys, sells),
+                Refusal::AlreadyHeld,
+            )?;
+        }
+        Ok(found)
     }
-    Ok(found)
-}
 
-// The tests of a change, in their order; the trade table is asked for while trading.
-pub(crate) fn check_change<B: Queue<BuyOrder>, S: Queue<SellOrder>>(
-    setting: Setting,
-    terms: &Instrument,
-    next: u32,
-    change: &OrderChange,
-    buys: &B,
-    sells: &S,
-    places: usize,
-) -> Result<Found, Refusal>
-    ensures answers { B.Queue.lawful buys.now → S.Queue.lawful sells.now → ((quote : AnyOption AnyQuoted) → Checked result (found_of (book_of (phase_in setting) terms.now next quote (B.Queue.held buys.now) (S.Queue.held sells.now) (λ us. band_in setting)) change.now.order) (first_of (change_checks change.now places (book_of (phase_in setting) terms.now next quote (B.Queue.held buys.now) (S.Queue.held sells.now) (λ us. band_in setting))))) }
-    ensures sound { OnOk result ((B.Queue.lawful buys.now → Sound buy_rank (B.Queue.held buys.now)) × (S.Queue.lawful sells.now → Sound sell_rank (S.Queue.held sells.now))) }
-    ensures turns { IfOk result (λ f. keeps_place change.now f.order ≡ false → next + 1 ≤ 1000001) }
-{
-    check_member(change.member)?;
-    check_price(terms, change.price)?;
-    check_lots(change.lots)?;
-    check_places(setting, places, buys.capacity(), sells.capacity())?;
-    check_found(setting, next, change, buys, sells)
+    // The tests of a change, in their order; the trade table is asked for while trading.
+    pub(crate) fn check_change<B: Queue<BuyOrder>, S: Queue<SellOrder>>(
+        &self,
+        setting: Setting,
+        change: &OrderChange,
+        buys: &B,
+        sells: &S,
+        places: usize,
+    ) -> Result<Found, Refusal>
+        ensures answers { B.Queue.lawful buys.now → S.Queue.lawful sells.now → Checked result (found_of (book_of (phase_in setting) self.now.terms self.now.next (P.last self.now.phase) (B.Queue.held buys.now) (S.Queue.held sells.now) (λ us. band_in setting)) change.now.order) (first_of (change_checks change.now places (book_of (phase_in setting) self.now.terms self.now.next (P.last self.now.phase) (B.Queue.held buys.now) (S.Queue.held sells.now) (λ us. band_in setting)))) }
+        ensures sound { OnOk result ((B.Queue.lawful buys.now → Sound buy_rank (B.Queue.held buys.now)) × (S.Queue.lawful sells.now → Sound sell_rank (S.Queue.held sells.now))) }
+        ensures turns { IfOk result (λ f. keeps_place change.now f.order ≡ false → self.now.next + 1 ≤ 1000001) }
+    {
+        check_member(change.member)?;
+        check_price(&self.terms, change.price)?;
+        check_lots(change.lots)?;
+        check_places(setting, places, buys.capacity(), sells.capacity())?;
+        self.check_found(setting, change, buys, sells)
+    }
 }

@@ -12,7 +12,7 @@ ghost use Rattle.book.specs.Books.{trading_book, outcome_of};
 use crate::checks::{check_lots, check_member, check_price, check_table, check_turns, refuse_if};
 use crate::lots::traded_lots;
 use crate::matching::{enter_on, lapses};
-use crate::phase::Trading;
+use crate::phase::{Book, Trading};
 use crate::side::{is_full, is_taken};
 use orders::Sided;
 use orders::order::{BuyOrder, Order, SellOrder};
@@ -45,7 +45,7 @@ fn remainder(lapse: bool, left: u32) -> (u128, u128)
     if lapse { (0, left) } else { (left, 0) }
 }
 
-impl Trading {
+impl Book<Trading> {
     // The tests of an order, in their order.
     fn check_order<B: Queue<BuyOrder>, S: Queue<SellOrder>>(
         &self,

@@ -7,7 +7,7 @@ ghost use Rattle.rules.specs.Keeps.{Keeps};
 ghost use Rattle.book.specs.Books.{waiting_book, trading_book, halted_book, closed_book, outcome_of};
 ghost use Rattle.book.specs.Dispatch.{call_of, message_of, replied, reply_to, phase_book, stays};
 
-use crate::phase::{Closed, Halted, Trading, Waiting};
+use crate::phase::{Book, Closed, Halted, Trading, Waiting};
 use orders::Sided;
 use orders::order::{BuyOrder, SellOrder};
 use price_range::PriceRange;
@@ -43,23 +43,20 @@ const NOTHING: Answer = Answer {
 // A phase of the day.
 #[derive(Drop)]
 pub enum Phase {
-    Waiting(Waiting),
-    Trading(Trading),
-    Halted(Halted),
-    Closed(Closed),
+    Waiting(Book<Waiting>),
+    Trading(Book<Trading>),
+    Halted(Book<Halted>),
+    Closed(Book<Closed>),
 }
 
 // An answer as a reply.
 fn as_reply(res: Result<Answer, Refusal>) -> Result<Reply, Refusal>
     ensures { result ≡ reply_to res }
 {
-    match res {
-        Ok(answer) => Ok(Reply::Answer(answer)),
-        Err(refusal) => Err(refusal),
-    }
+    res.map(Reply::Answer)
 }
 
-impl Waiting {
+impl Book<Waiting> {
     // Any message on this phase.
     fn message<B: Queue<BuyOrder>, S: Queue<SellOrder>, R: PriceRange>(
         self,
@@ -87,7 +84,7 @@ impl Waiting {
     }
 }
 
-impl Trading {
+impl Book<Trading> {
     // A message that leaves the book trading; any other is refused.
     fn trade<B: Queue<BuyOrder>, S: Queue<SellOrder>, R: PriceRange>(
         &mut self,
@@ -147,7 +144,7 @@ impl Trading {
     }
 }
 
-impl Trading {
+impl Book<Trading> {
     // Any message on this phase.
     fn message<B: Queue<BuyOrder>, S: Queue<SellOrder>, R: PriceRange>(
         mut self,
@@ -176,7 +173,7 @@ impl Trading {
     }
 }
 
-impl Halted {
+impl Book<Halted> {
     // Any message on this phase.
     fn message<B: Queue<BuyOrder>, S: Queue<SellOrder>, R: PriceRange>(
         mut self,

@@ -7,11 +7,11 @@ ghost use Rattle.rules.specs.ByRule.{ByRule, event_of};
 ghost use Rattle.rules.specs.Calls as calls;
 ghost use Rattle.rules.specs.Checks.{allows};
 ghost use Rattle.rules.specs.Keeps.{Keeps};
-ghost use Rattle.book.specs.Books.{book_of, trading_book, halted_book, outcome_of};
+ghost use Rattle.book.specs.Books.{book_of, book_in, outcome_of};
 
-use crate::checks::bad_member;
+use crate::checks::{check_member, refuse_if};
 use crate::find::{find_order, take_on};
-use crate::phase::{Halted, Trading};
+use crate::phase::{Book, MayCancel};
 use orders::order::{BuyOrder, SellOrder};
 use queue::Queue;
 use terms::message::OrderCancel;
@@ -28,15 +28,9 @@ fn cancel_order<B: Queue<BuyOrder>, S: Queue<SellOrder>>(
     ensures keeps { (B.Queue.lawful buys.old → B.Queue.lawful buys.new) × (S.Queue.lawful sells.old → S.Queue.lawful sells.new) }
     ensures cancels { B.Queue.lawful buys.old → S.Queue.lawful sells.old → ((p : AnyPhase) (terms : AnyInstrument) (next : ℕ) (quote : AnyOption AnyQuoted) (range : Answers) → allows p (calls.cancel cancel) ≡ true → ByRule (calls.cancel cancel) (book_of p terms next quote (B.Queue.held buys.old) (S.Queue.held sells.old) range) (outcome_of result) [] [] (book_of p terms next quote (B.Queue.held buys.new) (S.Queue.held sells.new) range)) }
 {
-    if bad_member(cancel.member) {
-        return Err(Refusal::BadMember);
-    }
-    let Some(found) = find_order(cancel.order, buys, sells) else {
-        return Err(Refusal::NotResting);
-    };
-    if found.order.member != cancel.member {
-        return Err(Refusal::NotOwner);
-    }
+    check_member(cancel.member)?;
+    let found = find_order(cancel.order, buys, sells).ok_or(Refusal::NotResting)?;
+    refuse_if(found.order.member != cancel.member, Refusal::NotOwner)?;
     take_on(found.side, cancel.order, buys, sells);
     Ok(Answer {
         number: cancel.order,
@@ -47,7 +41,7 @@ fn cancel_order<B: Queue<BuyOrder>, S: Queue<SellOrder>>(
     })
 }
 
-impl Trading {
+impl<P: MayCancel> Book<P> {
     // Cancels what rests of a member's order.
     pub fn cancel<B: Queue<BuyOrder>, S: Queue<SellOrder>>(
         &self,
@@ -57,25 +51,8 @@ impl Trading {
     ) -> Result<Answer, Refusal>
         ensures refused { OnErr result ((buys.new ≡ buys.old) × (sells.new ≡ sells.old)) }
         ensures keeps { (B.Queue.lawful buys.old → B.Queue.lawful buys.new) × (S.Queue.lawful sells.old → S.Queue.lawful sells.new) }
-        ensures by_rule { B.Queue.lawful buys.old → S.Queue.lawful sells.old → ((range : Answers) → ByRule (calls.cancel cancel) (trading_book self.now (B.Queue.held buys.old) (S.Queue.held sells.old) range) (outcome_of result) [] [] (trading_book self.now (B.Queue.held buys.new) (S.Queue.held sells.new) range)) }
-        ensures day { B.Queue.lawful buys.old → S.Queue.lawful sells.old → ((range : Answers) → Keeps (trading_book self.now (B.Queue.held buys.old) (S.Queue.held sells.old) range) (event_of (calls.cancel cancel) (outcome_of result) []) (trading_book self.now (B.Queue.held buys.new) (S.Queue.held sells.new) range)) }
-    {
-        cancel_order(cancel, buys, sells)
-    }
-}
-
-impl Halted {
-    // Cancels what rests of a member's order.
-    pub fn cancel<B: Queue<BuyOrder>, S: Queue<SellOrder>>(
-        &self,
-        cancel: OrderCancel,
-        buys: &mut B,
-        sells: &mut S,
-    ) -> Result<Answer, Refusal>
-        ensures refused { OnErr result ((buys.new ≡ buys.old) × (sells.new ≡ sells.old)) }
-        ensures keeps { (B.Queue.lawful buys.old → B.Queue.lawful buys.new) × (S.Queue.lawful sells.old → S.Queue.lawful sells.new) }
-        ensures by_rule { B.Queue.lawful buys.old → S.Queue.lawful sells.old → ((range : Answers) → ByRule (calls.cancel cancel) (halted_book self.now (B.Queue.held buys.old) (S.Queue.held sells.old) range) (outcome_of result) [] [] (halted_book self.now (B.Queue.held buys.new) (S.Queue.held sells.new) range)) }
-        ensures day { B.Queue.lawful buys.old → S.Queue.lawful sells.old → ((range : Answers) → Keeps (halted_book self.now (B.Queue.held buys.old) (S.Queue.held sells.old) range) (event_of (calls.cancel cancel) (outcome_of result) []) (halted_book self.now (B.Queue.held buys.new) (S.Queue.held sells.new) range)) }
+        ensures by_rule { B.Queue.lawful buys.old → S.Queue.lawful sells.old → ((range : Answers) → ByRule (calls.cancel cancel) (book_in P.phase P.last self.now (B.Queue.held buys.old) (S.Queue.held sells.old) range) (outcome_of result) [] [] (book_in P.phase P.last self.now (B.Queue.held buys.new) (S.Queue.held sells.new) range)) }
+        ensures day { B.Queue.lawful buys.old → S.Queue.lawful sells.old → ((range : Answers) → Keeps (book_in P.phase P.last self.now (B.Queue.held buys.old) (S.Queue.held sells.old) range) (event_of (calls.cancel cancel) (outcome_of result) []) (book_in P.phase P.last self.now (B.Queue.held buys.new) (S.Queue.held sells.new) range)) }
     {
         cancel_order(cancel, buys, sells)
     }

@@ -10,11 +10,11 @@ ghost use Rattle.rules.specs.Rules.{changing};
 ghost use Rattle.book.specs.Books.{trading_book, halted_book, outcome_of};
 ghost use Rattle.book.specs.Matching.{plain_buys, plain_sells};
 
-use crate::change_checks::{Setting, check_change, keeps_place};
+use crate::change_checks::{Setting, keeps_place};
 use crate::find::{cut_on, put_on, take_on};
 use crate::lots::traded_lots;
 use crate::matching::enter_on;
-use crate::phase::{Halted, Trading};
+use crate::phase::{Book, Halted, Trading};
 use orders::Sided;
 use orders::order::{BuyOrder, Found, Order, SellOrder};
 use price_range::PriceRange;
@@ -71,7 +71,7 @@ fn lower<B: Queue<BuyOrder>, S: Queue<SellOrder>>(
     change_answer(change, found, 0, change.lots, 0)
 }
 
-impl Trading {
+impl Book<Trading> {
     // Changes price and lots of what rests of an order. It keeps its place, or takes a new turn and meets as an order does.
     pub fn change<B: Queue<BuyOrder>, S: Queue<SellOrder>, R: PriceRange>(
         &mut self,
@@ -88,15 +88,7 @@ impl Trading {
     {
         let band = range.band();
         let next = self.next;
-        let found = check_change(
-            Setting::Trading(band),
-            &self.terms,
-            next,
-            &change,
-            buys,
-            sells,
-            trades.len(),
-        )?;
+        let found = self.check_change(Setting::Trading(band), &change, buys, sells, trades.len())?;
         if keeps_place(&change, &found.order) {
             return Ok(lower(&change, &found, buys, sells));
         }
@@ -117,7 +109,7 @@ impl Trading {
     }
 }
 
-impl Halted {
+impl Book<Halted> {
     // Changes price and lots of what rests of an order, which may not rise. In a halt it meets nothing.
     pub fn change<B: Queue<BuyOrder>, S: Queue<SellOrder>>(
         &mut self,
@@ -131,7 +123,7 @@ impl Halted {
         ensures day { B.Queue.lawful buys.old → S.Queue.lawful sells.old → ((range : Answers) → Keeps (halted_book self.old (B.Queue.held buys.old) (S.Queue.held sells.old) range) (event_of (calls.change change 0) (outcome_of result) []) (halted_book self.new (B.Queue.held buys.new) (S.Queue.held sells.new) range)) }
     {
         let next = self.next;
-        let found = check_change(Setting::Halted, &self.terms, next, &change, buys, sells, 0)?;
+        let found = self.check_change(Setting::Halted, &change, buys, sells, 0)?;
         if keeps_place(&change, &found.order) {
             return Ok(lower(&change, &found, buys, sells));
         }

@@ -8,16 +8,17 @@ ghost use Rattle.rules.specs.Book.{Answers, Phase as AnyPhase};
 ghost use Rattle.rules.specs.Checks.{first_of, found as found_of, improves, out_of_reach, rises, beyond_range, keeps_place, taken, is_trading, change_checks, found_checks};
 ghost use Rattle.book.specs.Books.{book_of};
 ghost use Rattle.book.specs.Changes.{phase_in, band_in, rise_in, Checked};
+ghost use Rattle.book.specs.Refusing.{refused_if};
 
-use crate::checks::{bad_lots, bad_member, bad_price, short_table, turns_used_up};
+use crate::checks::{check_lots, check_member, check_price, check_table, check_turns, refuse_if};
 use crate::find::find_order;
+use crate::phase::{Book, DayPhase};
 use crate::side::is_taken;
 use orders::order::{BuyOrder, Found, Order, SellOrder};
 use price_range::band::Band;
 use queue::Queue;
 use terms::message::OrderChange;
 use terms::refusal::Refusal;
-use terms::setup::Instrument;
 use terms::side::Side;
 
 // Where an order is changed: while trading, at these prices, or in a halt.
@@ -49,35 +50,29 @@ fn is_out_of_reach(side: Side, price: u32, band: Option<Band>) -> bool
 }
 
 // In a halt neither price nor lots may rise; while trading a better price is within reach.
-fn rise(setting: Setting, change: &OrderChange, found: &Found) -> Option<Refusal>
-    ensures { result ≡ rise_in setting change.now found.now }
+fn check_rise(setting: Setting, change: &OrderChange, found: &Found) -> Result<(), Refusal>
+    ensures { result ≡ answer (rise_in setting change.now found.now) }
 {
     let better = is_better(found.side, found.order.price, change.price);
     match setting {
-        Setting::Halted => {
-            if better || found.order.lots < change.lots {
-                Some(Refusal::HaltedRise)
-            } else {
-                None
-            }
-        }
-        Setting::Trading(band) => {
-            if better && is_out_of_reach(found.side, change.price, band) {
-                Some(Refusal::BeyondRange)
-            } else {
-                None
-            }
-        }
+        Setting::Halted => refuse_if(
+            better || found.order.lots < change.lots,
+            Refusal::HaltedRise,
+        ),
+        Setting::Trading(band) => refuse_if(
+            better && is_out_of_reach(found.side, change.price, band),
+            Refusal::BeyondRange,
+        ),
     }
 }
 
-// Whether the trade table is too short; a change may trade only while trading.
-fn is_short(setting: Setting, places: usize, buys: usize, sells: usize) -> bool
-    ensures { result ≡ (is_trading (phase_in setting) && nat_lt places (buys + sells)) }
+// The trade table is long enough; a change may trade only while trading.
+fn check_places(setting: Setting, places: usize, buys: usize, sells: usize) -> Result<(), Refusal>
+    ensures { result ≡ refused_if Refusal.ShortTradeTable (is_trading (phase_in setting) && nat_lt places (buys + sells)) }
 {
     match setting {
-        Setting::Trading(_) => short_table(places, buys, sells),
-        Setting::Halted => false,
+        Setting::Trading(_) => check_table(places, buys, sells),
+        Setting::Halted => Ok(()),
     }
 }
 
@@ -104,64 +99,49 @@ fn is_turn_taken<B: Queue<BuyOrder>, S: Queue<SellOrder>>(
     }
 }
 
-// The order rests, it is the member's, it does not rise, and the turn that it takes is left and free.
-fn check_found<B: Queue<BuyOrder>, S: Queue<SellOrder>>(
-    setting: Setting,
-    next: u32,
-    change: &OrderChange,
-    buys: &B,
-    sells: &S,
-) -> Result<Found, Refusal>
-    ensures answers { B.Queue.lawful buys.now → S.Queue.lawful sells.now → ((terms : AnyInstrument) (quote : AnyOption AnyQuoted) → Checked result (found_of (book_of (phase_in setting) terms next quote (B.Queue.held buys.now) (S.Queue.held sells.now) (λ us. band_in setting)) change.now.order) (first_of (found_checks change.now (found_of (book_of (phase_in setting) terms next quote (B.Queue.held buys.now) (S.Queue.held sells.now) (λ us. band_in setting)) change.now.order) (book_of (phase_in setting) terms next quote (B.Queue.held buys.now) (S.Queue.held sells.now) (λ us. band_in setting))))) }
-    ensures sound { OnOk result ((B.Queue.lawful buys.now → Sound buy_rank (B.Queue.held buys.now)) × (S.Queue.lawful sells.now → Sound sell_rank (S.Queue.held sells.now))) }
-    ensures turns { IfOk result (λ f. keeps_place change.now f.order ≡ false → next + 1 ≤ 1000001) }
-{
-    let Some(found) = find_order(change.order, buys, sells) else {
-        return Err(Refusal::NotResting);
-    };
-    if found.order.member != change.member {
-        return Err(Refusal::NotOwner);
+impl<P: DayPhase> Book<P> {
+    // The order rests, it is the member's, it does not rise, and the turn that it takes is left and free.
+    fn check_found<B: Queue<BuyOrder>, S: Queue<SellOrder>>(
+        &self,
+        setting: Setting,
+        change: &OrderChange,
+        buys: &B,
+        sells: &S,
+    ) -> Result<Found, Refusal>
+        ensures answers { B.Queue.lawful buys.now → S.Queue.lawful sells.now → Checked result (found_of (book_of (phase_in setting) self.now.terms self.now.next (P.last self.now.phase) (B.Queue.held buys.now) (S.Queue.held sells.now) (λ us. band_in setting)) change.now.order) (first_of (found_checks change.now (found_of (book_of (phase_in setting) self.now.terms self.now.next (P.last self.now.phase) (B.Queue.held buys.now) (S.Queue.held sells.now) (λ us. band_in setting)) change.now.order) (book_of (phase_in setting) self.now.terms self.now.next (P.last self.now.phase) (B.Queue.held buys.now) (S.Queue.held sells.now) (λ us. band_in setting)))) }
+        ensures sound { OnOk result ((B.Queue.lawful buys.now → Sound buy_rank (B.Queue.held buys.now)) × (S.Queue.lawful sells.now → Sound sell_rank (S.Queue.held sells.now))) }
+        ensures turns { IfOk result (λ f. keeps_place change.now f.order ≡ false → self.now.next + 1 ≤ 1000001) }
+    {
+        let found = find_order(change.order, buys, sells).ok_or(Refusal::NotResting)?;
+        refuse_if(found.order.member != change.member, Refusal::NotOwner)?;
+        check_rise(setting, change, &found)?;
+        if !keeps_place(change, &found.order) {
+            check_turns(self.next, 1)?;
+            refuse_if(
+                is_turn_taken(self.next, &found, buys, sells),
+                Refusal::AlreadyHeld,
+            )?;
+        }
+        Ok(found)
     }
-    if let Some(refusal) = rise(setting, change, &found) {
-        return Err(refusal);
-    }
-    if keeps_place(change, &found.order) {
-        return Ok(found);
-    }
-    if turns_used_up(next, 1) {
-        return Err(Refusal::TurnsUsedUp);
-    }
-    if is_turn_taken(next, &found, buys, sells) {
-        return Err(Refusal::AlreadyHeld);
-    }
-    Ok(found)
-}
 
-// The tests of a change, in their order; the trade table is asked for while trading.
-pub(crate) fn check_change<B: Queue<BuyOrder>, S: Queue<SellOrder>>(
-    setting: Setting,
-    terms: &Instrument,
-    next: u32,
-    change: &OrderChange,
-    buys: &B,
-    sells: &S,
-    places: usize,
-) -> Result<Found, Refusal>
-    ensures answers { B.Queue.lawful buys.now → S.Queue.lawful sells.now → ((quote : AnyOption AnyQuoted) → Checked result (found_of (book_of (phase_in setting) terms.now next quote (B.Queue.held buys.now) (S.Queue.held sells.now) (λ us. band_in setting)) change.now.order) (first_of (change_checks change.now places (book_of (phase_in setting) terms.now next quote (B.Queue.held buys.now) (S.Queue.held sells.now) (λ us. band_in setting))))) }
-    ensures sound { OnOk result ((B.Queue.lawful buys.now → Sound buy_rank (B.Queue.held buys.now)) × (S.Queue.lawful sells.now → Sound sell_rank (S.Queue.held sells.now))) }
-    ensures turns { IfOk result (λ f. keeps_place change.now f.order ≡ false → next + 1 ≤ 1000001) }
-{
-    if bad_member(change.member) {
-        return Err(Refusal::BadMember);
+    // The tests of a change, in their order; the trade table is asked for while trading.
+    pub(crate) fn check_change<B: Queue<BuyOrder>, S: Queue<SellOrder>>(
+        &self,
+        setting: Setting,
+        change: &OrderChange,
+        buys: &B,
+        sells: &S,
+        places: usize,
+    ) -> Result<Found, Refusal>
+        ensures answers { B.Queue.lawful buys.now → S.Queue.lawful sells.now → Checked result (found_of (book_of (phase_in setting) self.now.terms self.now.next (P.last self.now.phase) (B.Queue.held buys.now) (S.Queue.held sells.now) (λ us. band_in setting)) change.now.order) (first_of (change_checks change.now places (book_of (phase_in setting) self.now.terms self.now.next (P.last self.now.phase) (B.Queue.held buys.now) (S.Queue.held sells.now) (λ us. band_in setting)))) }
+        ensures sound { OnOk result ((B.Queue.lawful buys.now → Sound buy_rank (B.Queue.held buys.now)) × (S.Queue.lawful sells.now → Sound sell_rank (S.Queue.held sells.now))) }
+        ensures turns { IfOk result (λ f. keeps_place change.now f.order ≡ false → self.now.next + 1 ≤ 1000001) }
+    {
+        check_member(change.member)?;
+        check_price(&self.terms, change.price)?;
+        check_lots(change.lots)?;
+        check_places(setting, places, buys.capacity(), sells.capacity())?;
+        self.check_found(setting, change, buys, sells)
     }
-    if bad_price(terms, change.price) {
-        return Err(Refusal::BadPrice);
-    }
-    if bad_lots(change.lots) {
-        return Err(Refusal::BadLots);
-    }
-    if is_short(setting, places, buys.capacity(), sells.capacity()) {
-        return Err(Refusal::ShortTradeTable);
-    }
-    check_found(setting, next, change, buys, sells)
 }

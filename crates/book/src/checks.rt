@@ -1,31 +1,43 @@
 // The tests that a call makes before it changes anything.
-ghost use Rattle.std.specs.Prelude.{◌≡◌, ◌+◌, cond, length, nat_lt};
+ghost use Rattle.std.specs.Prelude.{◌≡◌, ◌+◌, nat_lt};
 ghost use Rattle.rules.specs.Checks.{bad_member, bad_price, bad_lots, bad_spread, bad_quote_lots, outside};
+ghost use Rattle.book.specs.Refusing.{refused_if};
 
 use terms::limits::{LOTS_MAX, MEMBER_MAX, PRICE_MAX, TURN_MAX};
 use terms::message::QuoteEntry;
+use terms::refusal::Refusal;
 use terms::setup::{Instrument, Span};
 
-// A member is 1 to 255.
-pub(crate) fn bad_member(member: u32) -> bool
-    ensures { result ≡ bad_member member }
+// Refuses for this reason where the test holds.
+pub(crate) fn refuse_if(test: bool, refusal: Refusal) -> Result<(), Refusal>
+    ensures { result ≡ refused_if refusal test }
 {
-    !(1 <= member && member <= MEMBER_MAX)
+    if test { Err(refusal) } else { Ok(()) }
+}
+
+// A member is 1 to 255.
+pub(crate) fn check_member(member: u32) -> Result<(), Refusal>
+    ensures { result ≡ refused_if Refusal.BadMember (bad_member member) }
+{
+    let allowed = 1 <= member && member <= MEMBER_MAX;
+    refuse_if(!allowed, Refusal::BadMember)
 }
 
 // A price is 1 to 100,000, and a multiple of the tick.
-pub(crate) fn bad_price(terms: &Instrument, price: u32) -> bool
-    ensures { result ≡ bad_price terms.now price }
+pub(crate) fn check_price(terms: &Instrument, price: u32) -> Result<(), Refusal>
+    ensures { result ≡ refused_if Refusal.BadPrice (bad_price terms.now price) }
 {
     let on_tick = terms.tick != 0 && price % terms.tick == 0;
-    !(1 <= price && price <= PRICE_MAX && on_tick)
+    let allowed = 1 <= price && price <= PRICE_MAX && on_tick;
+    refuse_if(!allowed, Refusal::BadPrice)
 }
 
 // Lots are 1 to 10,000,000.
-pub(crate) fn bad_lots(lots: u32) -> bool
-    ensures { result ≡ bad_lots lots }
+pub(crate) fn check_lots(lots: u32) -> Result<(), Refusal>
+    ensures { result ≡ refused_if Refusal.BadLots (bad_lots lots) }
 {
-    !(1 <= lots && lots <= LOTS_MAX)
+    let allowed = 1 <= lots && lots <= LOTS_MAX;
+    refuse_if(!allowed, Refusal::BadLots)
 }
 
 // Whether a number is below the least or above the greatest.
@@ -36,30 +48,35 @@ fn is_outside(span: &Span, n: u32) -> bool
 }
 
 // A bid is below its ask, by a spread of the instrument.
-pub(crate) fn bad_spread(terms: &Instrument, entry: &QuoteEntry) -> bool
-    ensures { result ≡ bad_spread terms.now entry.now }
+pub(crate) fn check_spread(terms: &Instrument, entry: &QuoteEntry) -> Result<(), Refusal>
+    ensures { result ≡ refused_if Refusal.BadSpread (bad_spread terms.now entry.now) }
 {
-    entry.ask_price <= entry.bid_price
-        || is_outside(&terms.spread, entry.ask_price - entry.bid_price)
+    let bad = entry.ask_price <= entry.bid_price
+        || is_outside(&terms.spread, entry.ask_price - entry.bid_price);
+    refuse_if(bad, Refusal::BadSpread)
 }
 
 // Both legs have quote lots of the instrument.
-pub(crate) fn bad_quote_lots(terms: &Instrument, entry: &QuoteEntry) -> bool
-    ensures { result ≡ bad_quote_lots terms.now entry.now }
+pub(crate) fn check_quote_lots(terms: &Instrument, entry: &QuoteEntry) -> Result<(), Refusal>
+    ensures { result ≡ refused_if Refusal.BadQuoteLots (bad_quote_lots terms.now entry.now) }
 {
-    is_outside(&terms.quote_lots, entry.bid_lots) || is_outside(&terms.quote_lots, entry.ask_lots)
+    let lots = &terms.quote_lots;
+    let bad = is_outside(lots, entry.bid_lots) || is_outside(lots, entry.ask_lots);
+    refuse_if(bad, Refusal::BadQuoteLots)
 }
 
-// Whether a trade table is shorter than both capacities together.
-pub(crate) fn short_table(places: usize, buys: usize, sells: usize) -> bool
-    ensures { result ≡ nat_lt places (buys + sells) }
+// A trade table is no shorter than both capacities together.
+pub(crate) fn check_table(places: usize, buys: usize, sells: usize) -> Result<(), Refusal>
+    ensures { result ≡ refused_if Refusal.ShortTradeTable (nat_lt places (buys + sells)) }
 {
-    (places as u128) < buys as u128 + sells as u128
+    let short = (places as u128) < buys as u128 + sells as u128;
+    refuse_if(short, Refusal::ShortTradeTable)
 }
 
-// Whether fewer turns are left than a call takes.
-pub(crate) fn turns_used_up(next: u32, turns: u32) -> bool
-    ensures { result ≡ nat_lt 1000001 (next + turns) }
+// As many turns are left as a call takes.
+pub(crate) fn check_turns(next: u32, turns: u32) -> Result<(), Refusal>
+    ensures { result ≡ refused_if Refusal.TurnsUsedUp (nat_lt 1000001 (next + turns)) }
 {
-    u64::from(next) + u64::from(turns) > u64::from(TURN_MAX) + 1
+    let used_up = u64::from(next) + u64::from(turns) > u64::from(TURN_MAX) + 1;
+    refuse_if(used_up, Refusal::TurnsUsedUp)
 }

@@ -3,16 +3,16 @@ ghost use Rattle.std.specs.Prelude.{◌≡◌, length, if◌then◌else◌, None
 ghost use Rattle.orders.specs.Priority.{buy_rank, sell_rank, rank_of};
 ghost use Rattle.queue.specs.Carries.{Carries, map_held};
 ghost use Rattle.queue.specs.Held.{Sound, answer};
-ghost use Rattle.rules.specs.Checks.{first_of, place_checks, order_checks};
+ghost use Rattle.rules.specs.Checks.{first_of, is_immediate, place_checks, order_checks};
 ghost use Rattle.rules.specs.ByRule.{ByRule, event_of};
 ghost use Rattle.rules.specs.Calls as calls;
 ghost use Rattle.rules.specs.Keeps.{Keeps};
 ghost use Rattle.book.specs.Books.{trading_book, outcome_of};
 
-use crate::checks::{bad_lots, bad_member, bad_price, short_table, turns_used_up};
+use crate::checks::{check_lots, check_member, check_price, check_table, check_turns, refuse_if};
 use crate::lots::traded_lots;
 use crate::matching::{enter_on, lapses};
-use crate::phase::Trading;
+use crate::phase::{Book, Trading};
 use crate::side::{is_full, is_taken};
 use orders::Sided;
 use orders::order::{BuyOrder, Order, SellOrder};
@@ -26,20 +26,15 @@ use terms::trade::{Answer, Trade};
 // The own side has a place for an order that may rest, and its turn is free there.
 fn check_place<E: Sided, Q: Queue<E>>(
     side: Side,
+    time: TimeInForce,
     own: &Q,
-    immediate: bool,
     turn: u32,
 ) -> Result<(), Refusal>
     requires { Carries E.Sided.plain E.Ranked.rank (rank_of side) }
-    ensures { result ≡ answer (first_of (place_checks immediate side turn (map_held E.Sided.plain (Q.Queue.held own.now)))) }
+    ensures { result ≡ answer (first_of (place_checks (is_immediate time) side turn (map_held E.Sided.plain (Q.Queue.held own.now)))) }
 {
-    if !immediate && is_full(own) {
-        return Err(Refusal::QueueFull);
-    }
-    if is_taken(side, own, turn, None) {
-        return Err(Refusal::AlreadyHeld);
-    }
-    Ok(())
+    refuse_if(time == TimeInForce::Day && is_full(own), Refusal::QueueFull)?;
+    refuse_if(is_taken(side, own, turn, None), Refusal::AlreadyHeld)
 }
 
 // The lots of a remainder that rest, and those that are cancelled.
@@ -50,7 +45,7 @@ fn remainder(lapse: bool, left: u32) -> (u128, u128)
     if lapse { (0, left) } else { (left, 0) }
 }
 
-impl Trading {
+impl Book<Trading> {
     // The tests of an order, in their order.
     fn check_order<B: Queue<BuyOrder>, S: Queue<SellOrder>>(
         &self,
@@ -64,28 +59,14 @@ impl Trading {
         ensures answers { result ≡ answer (first_of (order_checks side time entry.now places (trading_book self.now (B.Queue.held buys.now) (S.Queue.held sells.now) (λ us. None)))) }
         ensures sound { OnOk result ((B.Queue.lawful buys.now → Sound buy_rank (B.Queue.held buys.now)) × (S.Queue.lawful sells.now → Sound sell_rank (S.Queue.held sells.now))) }
     {
-        if bad_member(entry.member) {
-            return Err(Refusal::BadMember);
-        }
-        if bad_price(&self.terms, entry.price) {
-            return Err(Refusal::BadPrice);
-        }
-        if bad_lots(entry.lots) {
-            return Err(Refusal::BadLots);
-        }
-        if short_table(places, buys.capacity(), sells.capacity()) {
-            return Err(Refusal::ShortTradeTable);
-        }
-        if turns_used_up(self.next, 1) {
-            return Err(Refusal::TurnsUsedUp);
-        }
-        let immediate = match time {
-            TimeInForce::Immediate => true,
-            TimeInForce::Day => false,
-        };
+        check_member(entry.member)?;
+        check_price(&self.terms, entry.price)?;
+        check_lots(entry.lots)?;
+        check_table(places, buys.capacity(), sells.capacity())?;
+        check_turns(self.next, 1)?;
         match side {
-            Side::Buy => check_place(side, buys, immediate, self.next),
-            Side::Sell => check_place(side, sells, immediate, self.next),
+            Side::Buy => check_place(side, time, buys, self.next),
+            Side::Sell => check_place(side, time, sells, self.next),
         }
     }
 

@@ -6,22 +6,11 @@ use orders::Sided;
 use queue::Queue;
 use terms::trade::Trade;
 
-// The lots of a trade.
-fn lots_of(t: &Trade) -> u32
-    ensures { result ≡ t.now.lots }
-{
-    t.lots
-}
-
 // The lots of these trades.
 pub(crate) fn traded_lots(trades: &[Trade]) -> u128
     ensures { result ≡ traded_lots trades.now }
 {
-    let mut sum = 0;
-    for t in trades {
-        sum += u128::from(lots_of(t));
-    }
-    sum
+    trades.iter().map(|t| u128::from(t.lots)).sum()
 }
 
 // The lots of an order that rests.

@@ -103,6 +103,7 @@ pub(crate) fn meet<E: Sided, Q: Queue<E>>(
 {
     let mut lots = incoming.lots;
     let mut next = place;
+    // A named form, kept: matching is a loop left by `break` with the remainder, and writes its trades by index.
     let left = loop {
         if lots == 0 || next >= trades.len() {
             break lots;

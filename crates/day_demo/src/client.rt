@@ -3,7 +3,7 @@ ghost use Rattle.std.specs.Prelude.{IfOk};
 ghost use Rattle.book.specs.Books.{closed_book};
 ghost use Rattle.day_demo.specs.Shown.{Shown};
 
-use book::phase::{Closed, Waiting};
+use book::phase::{Book, Closed};
 use orders::Sided;
 use orders::order::{BuyOrder, SellOrder};
 use price_range::PriceRange;
@@ -24,10 +24,10 @@ pub fn short_day<B: Queue<BuyOrder>, S: Queue<SellOrder>, R: PriceRange>(
     sells: &mut S,
     range: &mut R,
     trades: &mut [Trade],
-) -> Result<Closed, Refusal>
+) -> Result<Book<Closed>, Refusal>
     ensures { IfOk result (λ c. Shown (R.PriceRange.answers range.old) (closed_book c (B.Queue.held buys.new) (S.Queue.held sells.new) (R.PriceRange.answers range.new))) }
 {
-    let waiting = Waiting::open(terms, buys, sells)?;
+    let waiting = Book::open(terms, buys, sells)?;
     let mut trading = match waiting.quote(quote, buys, sells, range, trades) {
         Ok((trading, _)) => trading,
         Err((_, refusal)) => return Err(refusal),

@@ -2,7 +2,7 @@
 use Rattle.std.proofs.Common.{◌≡◌, ℕ, suc, ◌-◌, ◌<◌, ◌≤◌, Bool, true, false, cond, eqb, List, [], ◌∷◌, map, length, Some, None, Option, sym, refl, ap, ◌∙◌, subst}
 use Rattle.std.specs.List.{AllByRecursion}
 use Rattle.terms.specs.declared.refusal.Refusal.{Refusal}
-use Rattle.queue.specs.Held.{Held, Sorted, Apart, Sound, head, first, any, insert, remove, is, clash, excepted, takes, barred, uncut, unless, cutting, numbered, after_put, after_cut, after_take}
+use Rattle.queue.specs.Held.{Held, Sorted, Apart, Sound, first, any, insert, remove, is, clash, excepted, takes, barred, uncut, unless, cutting, numbered, after_put, after_cut, after_take}
 use Rattle.queue.specs.Carries.{Carries, map_some, map_held}
 use Rattle.queue.specs.Rank.{Rank}
 
@@ -11,10 +11,6 @@ map-length f [] = refl
 map-length f (x ∷ xs) = ap suc (map-length f xs)
 
 module _ {E F : Type 0} (f : E → F) (r : Rank E) (q : Rank F) (c : Carries f r q) where
-  pub map-head : (xs : List E) → head (map f xs) ≡ map_some f (head xs)
-  map-head [] = refl
-  map-head (x ∷ xs) = refl
-
   same_number : (n : ℕ) (x : E) → is q.number n (f x) ≡ is r.number n x
   same_number n x = ap (λ k. eqb k n) (c.number x)
 

@@ -1,5 +1,5 @@
 -- `change` and `cutting`: where they write, and what they keep.
-use Rattle.std.proofs.Common.{◌≡◌, ℕ, suc, ◌-◌, ◌<◌, Bool, true, false, cond, ◌||◌, eqb, leb, List, [], ◌∷◌, get_or, set, Some, None, Option, sym, refl, ap, ◌∙◌, arith}
+use Rattle.std.proofs.Common.{◌≡◌, ℕ, suc, ◌-◌, ◌<◌, ◌≤◌, Bool, true, false, cond, ◌||◌, eqb, leb, List, [], ◌∷◌, get_or, set, Some, None, Option, sym, refl, ap, ◌∙◌, arith}
 use Rattle.std.proofs.lemmas.Bool.{cond_both, eq-eqb, ne_eqb, and_parts, leb-true}
 use Rattle.std.specs.List.{AllByRecursion}
 use Rattle.terms.specs.declared.refusal.Refusal.TheVariants.{BadCut}
@@ -75,8 +75,7 @@ cut_refused r n o e f h = ap (uncut r n) f ∙ ap (λ t. cond t None (Some BadCu
 pub cut_allowed : {E : Type 0} (r : Rank E) (n : ℕ) (o : Option E) (e : E) → o ≡ Some e → cuttable r n e ≡ true → uncut r n o ≡ None
 cut_allowed r n o e f h = ap (uncut r n) f ∙ ap (λ t. cond t None (Some BadCut)) h
 
--- lots are left where not all are cut
-pub cut_some : {E : Type 0} (r : Rank E) (n : ℕ) (e : E) → cuttable r n e ≡ true → (r.lots e ≡ n → ⊥) → 0 < r.lots e - n
-cut_some r n e h some =
-    let k = leb-true n (r.lots e) (and_parts (leb 1 n) (leb n (r.lots e)) h).1 in
-    omega arith
+-- no more lots are cut than there are, and some are left where not all are cut
+pub cut_within : {E : Type 0} (r : Rank E) (n : ℕ) (e : E) → cuttable r n e ≡ true → n ≤ r.lots e
+cut_within r n e h = leb-true n (r.lots e) (and_parts (leb 1 n) (leb n (r.lots e)) h).1
+

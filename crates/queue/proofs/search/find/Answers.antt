@@ -1,15 +1,13 @@
-use Rattle.std.proofs.Common.{sym, ◌∙◌, eq-eqb, ne_eqb}
+use Rattle.std.proofs.Common.{rules, tests, ◌∙◌}
+use Rattle.std.proofs.lemmas.Iterator.{YieldsList-from_slice}
+use Rattle.std.proofs.lemmas.Iterator.Search.{find_from_yields_List}
 use Rattle.queue.specs.Held.{is}
-use Rattle.queue.proofs.Places.{first_more, first_stop, first-all}
+use Rattle.queue.proofs.Places.{first_is}
 use Rattle.queue.proofs.search.find.Goals as goal
 
-pub returns-then-number : goal.returns-then-number
-returns-then-number g c =
-    sym (first_stop (is g.E.Ranked.rank.number c.args.number) _ c.loop-e.e-index _ c.loop-e-test.true c.e-item.is (eq-eqb _ _ (sym c.number.ensures ∙ c.if-number.true))) ∙ c.loop-e.invariant
-
-pub loop-e-preserved : goal.loop-e-preserved
-loop-e-preserved g c =
-    sym (first_more (is g.E.Ranked.rank.number c.args.number) _ c.loop-e.e-index _ c.loop-e-test.true c.e-item.is (ne_eqb _ _ (λ e. c.if-number.false (c.number.ensures ∙ e)))) ∙ c.loop-e.invariant
-
 pub returns : goal.returns
-returns g c = sym (first-all (is g.E.Ranked.rank.number c.args.number) _ c.loop-e.e-index c.loop-e-test.false) ∙ c.loop-e.invariant
+returns g c =
+    let p = is g.E.Ranked.rank.number c.args.number in
+    c.copied.ensures
+    ∙ find_from_yields_List p _ _ c.find.result c.find.ensures.ran (YieldsList-from_slice _ c.iter.ensures.rest) (λ x b q k. search (rules, tests))
+    ∙ first_is p c.args.elements.now

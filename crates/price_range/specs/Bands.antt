@@ -17,20 +17,21 @@ Proper (Some b) = b.low ≤ b.high
 abbrev pub band_of : ℕ → ℕ → Option Band
 band_of low high = cond (nat_le low high) (Some (record { low = low; high = high })) None
 
--- the later of two quotes counts, unless its bid is above its ask
-abbrev pub told : Update → Update → Update
-told last u = cond (nat_le u.bid u.ask) u last
-
--- bid to ask of the last quote
-abbrev pub quote_answers : Update → List Update → Option Band
-quote_answers last [] = band_of last.bid last.ask
-quote_answers last (u ∷ us) = quote_answers (told last u) us
-
--- the same in other words: none until a quote is told, then bid to ask of the last one whose bid is not above its ask
+-- a band, or another where there is none
 abbrev pub or_else : Option Band → Option Band → Option Band
 or_else None o = o
 or_else (Some b) o = Some b
 
+-- of two quotes the later one counts, unless its bid is above its ask
+abbrev pub told : Option Band → Update → Option Band
+told last u = or_else (band_of u.bid u.ask) last
+
+-- the prices of the last quote, where those of the one before are given
+abbrev pub quote_answers : Option Band → List Update → Option Band
+quote_answers last [] = last
+quote_answers last (u ∷ us) = quote_answers (told last u) us
+
+-- the same in other words: none until a quote is told, then bid to ask of the last one whose bid is not above its ask
 abbrev pub last_quote : List Update → Option Band
 last_quote [] = None
 last_quote (u ∷ us) = or_else (last_quote us) (band_of u.bid u.ask)

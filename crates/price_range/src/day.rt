@@ -37,55 +37,46 @@ impl PriceRange for DayRange {
 
     ghost backwards = { λ s us vs u h. refl };
 
-    fn band(&self) -> Option<Band>
-        ensures { result ≡ day_band self.now.day }
-    {
-        Some(Band {
-            low: self.day.least,
-            high: self.day.greatest,
-        })
+    fn band(&self) -> Option<Band> {
+        Some(Band::from(self.day))
     }
 
     fn tell(&mut self, _bid: u32, _ask: u32) {}
 }
 
-// The prices common to floor to ceiling and the range below, which is told what they are told.
+// The prices common to a day range and the range below, which is told what they are told.
 #[derive(Drop)]
 pub struct DayLimits<R> {
-    day: Span,
+    range: DayRange,
     below: R,
 }
 
 impl<R: PriceRange + Drop> DayLimits<R> {
     // Refused where floor and ceiling are outside their limits.
     pub fn new(day: Span, below: R) -> Result<DayLimits<R>, Refusal>
-        ensures { MatchResult result (λ d. (span_allowed 100000 day ≡ true) × (d.day ≡ day) × (d.below ≡ below)) (λ e. (span_allowed 100000 day ≡ false) × (e ≡ OutsideLimits)) }
+        ensures { MatchResult result (λ d. (span_allowed 100000 day ≡ true) × (d.range.day ≡ day) × (d.below ≡ below)) (λ e. (span_allowed 100000 day ≡ false) × (e ≡ OutsideLimits)) }
     {
-        if !day.is_allowed(PRICE_MAX) {
-            return Err(Refusal::OutsideLimits);
-        }
-        Ok(DayLimits { day, below })
+        let range = DayRange::new(day)?;
+        Ok(DayLimits { range, below })
     }
 }
 
 impl<R: PriceRange> PriceRange for DayLimits<R> {
-    ghost answers = { λ s us. common s.day (R.PriceRange.answers s.below us) };
+    ghost answers = { λ s us. common s.range.day (R.PriceRange.answers s.below us) };
 
     ghost proper = { Prim.search rules };
 
     ghost backwards = { Prim.search rules };
 
     fn band(&self) -> Option<Band>
-        ensures value { result ≡ common self.now.day (R.PriceRange.answers self.now.below []) }
-        ensures prices { Common self.now.day (R.PriceRange.answers self.now.below []) result }
+        ensures value { result ≡ common self.now.range.day (R.PriceRange.answers self.now.below []) }
+        ensures prices { Common self.now.range.day (R.PriceRange.answers self.now.below []) result }
     {
+        let day = self.range.day;
         let band = self.below.band()?;
-        let low = band.low.max(self.day.least);
-        let high = band.high.min(self.day.greatest);
-        if low > high {
-            return None;
-        }
-        Some(Band { low, high })
+        let low = band.low.max(day.least);
+        let high = band.high.min(day.greatest);
+        (low <= high).then_some(Band { low, high })
     }
 
     fn tell(&mut self, bid: u32, ask: u32) {

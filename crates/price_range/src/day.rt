@@ -37,7 +37,9 @@ impl PriceRange for DayRange {
 
     ghost backwards = { λ s us vs u h. refl };
 
-    fn band(&self) -> Option<Band> {
+    fn band(&self) -> Option<Band>
+        ensures { result ≡ day_band self.now.day }
+    {
         Some(Band::from(self.day))
     }
 

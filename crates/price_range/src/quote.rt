@@ -1,5 +1,5 @@
 // The quote range: none until a quote is told, then bid to ask.
-ghost use Rattle.std.specs.Prelude.{◌≡◌, ◌≤◌, List};
+ghost use Rattle.std.specs.Prelude.{◌≡◌, ◌≤◌, List, []};
 ghost use Rattle.std.specs.Option.{ForSome};
 ghost use Rattle.price_range.specs.Bands.{Update, quote_answers, last_quote};
 ghost use Rattle.price_range.specs.Quotes.{quote_proper, quote_backwards};
@@ -30,7 +30,9 @@ impl PriceRange for QuoteRange {
 
     ghost backwards = { λ s us vs u h. quote_backwards _ us vs u h };
 
-    fn band(&self) -> Option<Band> {
+    fn band(&self) -> Option<Band>
+        ensures { result ≡ quote_answers self.now.last [] }
+    {
         self.last
     }
 

@@ -1,71 +1,96 @@
--- The best so far, as a loop goes up.
-use Rattle.std.proofs.Common.{◌≡◌, ℕ, zero, suc, ◌+◌, ◌<◌, Bool, true, false, cond, not, eqb, List, [], ◌∷◌, ◌++◌, length, get_or, take, Some, sym, refl, ap, ◌∙◌, subst, inl, inr}
-use Rattle.std.proofs.lemmas.List.{take_more}
-use Rattle.std.proofs.lemmas.Bool.{cases_Bool, both_ways, or_parts, or_from, eqb-false}
-use Rattle.queue.specs.Held.{Sorted, Apart, any, is, insert, first}
-use Rattle.std.specs.List.{AllByRecursion}
+-- The first in rank of the elements that pass a test.
+use Rattle.std.proofs.Common.{◌≡◌, ℕ, Bool, true, false, cond, not, eqb, List, [], ◌∷◌, filter, Some, sym, refl, ap, ◌∙◌}
+use Rattle.std.proofs.lemmas.Bool.{cond_both, both_ways, or_parts, or_from, eqb-false}
+use Rattle.std.specs.List.{AllByRecursion, fold, reduce}
 use Rattle.queue.proofs.Inserts.{all_map, other}
+use Rattle.queue.specs.Held.{Sorted, Apart, any, is, insert, first, head}
 use Rattle.queue.specs.Rank.{ExactlyOne}
-use Rattle.heap_queue.specs.Heaps.{ranked, better}
-use Rattle.heap_queue.proofs.Perms.{perm_last, perm_sym, perm_apart, ranked_perm}
-use Rattle.heap_queue.proofs.Ranks.{any-ranked, sorted_ranked, first_no}
+use Rattle.queue.specs.Through.{swap}
+use Rattle.heap_queue.specs.Heaps.{ranked}
+use Rattle.heap_queue.proofs.Perms.{insert_front, ranked_perm}
+use Rattle.heap_queue.proofs.Ranks.{sorted_ranked}
 
-module _ {E : Type 0} where
-  any-take : (q : E → Bool) (n : ℕ) (xs : List E) → any q xs ≡ false → any q (take n xs) ≡ false
-  any-take q zero xs h = refl
-  any-take q (suc n) [] h = refl
-  any-take q (suc n) (x ∷ xs) h = let o = or_parts (q x) (any q xs) h in or_from (q x) _ o.0 (any-take q n xs o.1)
+-- what `filter` keeps
+module _ {E : Type 0} (q : E → Bool) where
+  all_filter : (P : E → Type 0) (xs : List E) → AllByRecursion P xs → AllByRecursion P (filter q xs)
+  all_filter P [] h = tt
+  all_filter P (x ∷ xs) h = cond_both (q x) _ _ (AllByRecursion P) (λ _. (h.0, all_filter P xs h.1)) (λ _. all_filter P xs h.1)
 
-  pub apart_take : (f : E → ℕ) (n : ℕ) (xs : List E) → Apart f xs → Apart f (take n xs)
-  apart_take f zero xs a = tt
-  apart_take f (suc n) [] a = tt
-  apart_take f (suc n) (x ∷ xs) a = (any-take (is f (f x)) n xs a.0, apart_take f n xs a.1)
+  any-filter : (p : E → Bool) (xs : List E) → any p xs ≡ false → any p (filter q xs) ≡ false
+  any-filter p [] h = refl
+  any-filter p (x ∷ xs) h =
+      let a = or_parts (p x) (any p xs) h in
+      let r = any-filter p xs a.1 in
+      cond_both (q x) _ _ (λ ys. any p ys ≡ false) (λ _. or_from (p x) _ a.0 r) (λ _. r)
+
+  apart_filter : (f : E → ℕ) (xs : List E) → Apart f xs → Apart f (filter q xs)
+  apart_filter f [] a = tt
+  apart_filter f (x ∷ xs) a = cond_both (q x) _ _ (Apart f) (λ _. (any-filter (is f (f x)) xs a.0, apart_filter f xs a.1)) (λ _. apart_filter f xs a.1)
+
+  first-filter : (xs : List E) → first q xs ≡ head (filter q xs)
+  first-filter [] = refl
+  first-filter (x ∷ xs) = elim (q x) as (λ t. cond t (Some x) (first q xs) ≡ head (cond t (x ∷ filter q xs) (filter q xs))) [ true ↦ refl | false ↦ first-filter xs ]
 
 module _
     {E : Type 0} (b : E → E → Bool)
-    (irreflexive : (x : E) → b x x ≡ false)
     (transitive : (x y z : E) → b x y ≡ true → b y z ≡ true → b x z ≡ true)
     (key : E → ℕ)
     (connected : (x y : E) → (key x ≡ key y → ⊥) → ExactlyOne (b x y) (b y x))
   where
-    one_way : (x y : E) → b x y ≡ true → b y x ≡ false
-    one_way x y h = elim (cases_Bool (b y x)) [ inl t ↦ absurd (both_ways (b x x) (irreflexive x) (transitive x y x h t)) | inr t ↦ t ]
+    filter_no : (q : E → Bool) (x : E) (ys : List E) → q x ≡ false → filter q (insert b x ys) ≡ filter q ys
+    filter_no q x [] h = rw h
+    filter_no q x (y ∷ ys) h =
+        let r = filter_no q x ys h in
+        cond_both (b x y) _ _ (λ zs. filter q zs ≡ filter q (y ∷ ys)) (λ _. rw h) (λ _. ap (λ zs. cond (q y) (y ∷ zs) zs) r)
 
-    stays : (q : E → Bool) (x : E) (ws : List E) → AllByRecursion (λ y. b y x ≡ false) ws → better b (first q ws) x ≡ x
-    stays q x [] h = refl
-    stays q x (w ∷ ws) h = let r = stays q x ws h.1 in elim (q w) as (λ t. better b (cond t (Some w) (first q ws)) x ≡ x) [ true ↦ rw h.0 | false ↦ r ]
-
-    first-better : (q : E → Bool) (x : E) (zs : List E) → q x ≡ true → any (is key (key x)) zs ≡ false → Sorted b zs → first q (insert b x zs) ≡ Some (better b (first q zs) x)
-    first-better q x [] h k s = rw h
-    first-better q x (z ∷ zs) h k s =
-        let o = or_parts (eqb (key z) (key x)) _ k in
-        let turned = other (b x z) (b z x) (connected x z (λ e. eqb-false _ _ o.0 (sym e))) in
-        go (b x z) refl (q z) refl (λ t. turned ∙ ap not t) (first-better q x zs h o.1 s.1)
-        (λ t. stays q x (z ∷ zs) (one_way x z t, all_map (λ y u. one_way x y (transitive x z y t u)) zs s.0))
+    filter_yes : (q : E → Bool) (x : E) (ys : List E) → q x ≡ true → Sorted b ys → filter q (insert b x ys) ≡ insert b x (filter q ys)
+    filter_yes q x [] h s = rw h
+    filter_yes q x (y ∷ ys) h s =
+        go (b x y) refl (q y) refl (filter_yes q x ys h s.1)
+        (λ t. insert_front b transitive x (filter q (y ∷ ys)) (all_filter q (λ z. b x z ≡ true) (y ∷ ys) (t, all_map (λ z u. transitive x y z t u) ys s.0)))
       where
-        go : (u : Bool) → b x z ≡ u → (t : Bool) → q z ≡ t → (b x z ≡ false → b z x ≡ true) → first q (insert b x zs) ≡ Some (better b (first q zs) x) → (b x z ≡ true → better b (first q (z ∷ zs)) x ≡ x) → first q (insert b x (z ∷ zs)) ≡ Some (better b (first q (z ∷ zs)) x)
-        go true u t v c r f = (rw (u, h)) ∙ sym (ap Some (f u))
-        go false u true v c r f = let w = c u in simp (u, v, w)
-        go false u false v c r f = simp (u, v) r
+        go : (u : Bool) → b x y ≡ u → (t : Bool) → q y ≡ t → filter q (insert b x ys) ≡ insert b x (filter q ys) → (b x y ≡ true → insert b x (filter q (y ∷ ys)) ≡ x ∷ filter q (y ∷ ys)) → filter q (insert b x (y ∷ ys)) ≡ insert b x (filter q (y ∷ ys))
+        go true u t v r f = (rw (u, h)) ∙ sym (f u)
+        go false u true v r f = simp (u, v) (ap (λ zs. y ∷ zs) r)
+        go false u false v r f = simp (u, v) r
 
-    -- one more element
-    ranked_push : (ys : List E) (x : E) → Apart key (ys ++ (x ∷ [])) → ranked b (ys ++ (x ∷ [])) ≡ insert b x (ranked b ys)
-    ranked_push ys x a = sym (ranked_perm b transitive key connected (perm_last x ys) (perm_apart key (perm_sym (perm_last x ys)) a))
+    filter-ranked : (q : E → Bool) (xs : List E) → Apart key xs → filter q (ranked b xs) ≡ ranked b (filter q xs)
+    filter-ranked q [] a = refl
+    filter-ranked q (x ∷ xs) a =
+        go (q x) refl (filter-ranked q xs a.1)
+      where
+        go : (t : Bool) → q x ≡ t → filter q (ranked b xs) ≡ ranked b (filter q xs) → filter q (insert b x (ranked b xs)) ≡ ranked b (cond t (x ∷ filter q xs) (filter q xs))
+        go true t r = filter_yes q x (ranked b xs) t (sorted_ranked b transitive key connected xs a.1) ∙ ap (insert b x) r
+        go false t r = filter_no q x (ranked b xs) t ∙ r
 
-    module _ (q : E → Bool) (xs : List E) (i : ℕ) (x : E) (l : i < length xs) (r : x ≡ get_or xs i x) (a : Apart key xs) where
-      pushed : take (i + 1) xs ≡ take i xs ++ (x ∷ [])
-      pushed = take_more xs i x l ∙ ap (λ y. take i xs ++ (y ∷ [])) (sym r)
+    -- who ranks after x does not come first beside x
+    passed : (x y : E) (zs : List E) → b x y ≡ true → head (insert b x (insert b y zs)) ≡ head (insert b x zs)
+    passed x y [] h = rw h
+    passed x y (z ∷ zs) h = go (b y z) refl (b x z) refl
+      where
+        go : (s : Bool) → b y z ≡ s → (t : Bool) → b x z ≡ t → head (insert b x (insert b y (z ∷ zs))) ≡ head (insert b x (z ∷ zs))
+        go true p true q = simp (p, q, h)
+        go true p false q = absurd (both_ways (b x z) q (transitive x y z h p))
+        go false p true q = simp (p, q, h)
+        go false p false q = simp (p, q)
 
-      grown : Apart key (take i xs ++ (x ∷ []))
-      grown = subst (Apart key) pushed (apart_take key (i + 1) xs a)
+    best_of : (x : E) (ys : List E) → Apart key (x ∷ ys) → Some (fold (λ g f. cond (b g f) g f) x ys) ≡ head (ranked b (x ∷ ys))
+    best_of x [] a = refl
+    best_of x (y ∷ ys) a =
+        let o = or_parts (eqb (key y) (key x)) _ a.0 in
+        let turned = other (b x y) (b y x) (connected x y (λ e. eqb-false _ _ o.0 (sym e))) in
+        go (b x y) refl (λ t. turned ∙ ap not t) (best_of x ys (o.1, a.1.1)) (best_of y ys a.1)
+        (ap head (ranked_perm b transitive key connected (swap x y ys) a))
+      where
+        go :
+            (t : Bool) → b x y ≡ t → (b x y ≡ false → b y x ≡ true) → Some (fold (λ g f. cond (b g f) g f) x ys) ≡ head (ranked b (x ∷ ys)) → Some (fold (λ g f. cond (b g f) g f) y ys) ≡ head (ranked b (y ∷ ys)) → head (ranked b (x ∷ (y ∷ ys))) ≡ head (ranked b (y ∷ (x ∷ ys)))
+            → Some (fold (λ g f. cond (b g f) g f) (cond t x y) ys) ≡ head (ranked b (x ∷ (y ∷ ys)))
+        go true t c p q s = p ∙ sym (passed x y (ranked b ys) t)
+        go false t c p q s = q ∙ sym (passed y x (ranked b ys) (c t)) ∙ sym s
 
-      next : ranked b (take (i + 1) xs) ≡ insert b x (ranked b (take i xs))
-      next = ap (ranked b) pushed ∙ ranked_push (take i xs) x grown
+    best_is : (ys : List E) → Apart key ys → reduce (λ g f. cond (b g f) g f) ys ≡ head (ranked b ys)
+    best_is [] a = refl
+    best_is (y ∷ ys) a = best_of y ys a
 
-      pub best_less : q x ≡ false → first q (ranked b (take (i + 1) xs)) ≡ first q (ranked b (take i xs))
-      best_less h = ap (first q) next ∙ first_no b q x (ranked b (take i xs)) h
-
-      pub best_more : q x ≡ true → first q (ranked b (take (i + 1) xs)) ≡ Some (better b (first q (ranked b (take i xs))) x)
-      best_more h =
-          let c : Apart key (x ∷ take i xs) = perm_apart key (perm_sym (perm_last x (take i xs))) grown in
-          ap (first q) next ∙ first-better q x (ranked b (take i xs)) h (any-ranked b (is key (key x)) (take i xs) ∙ c.0) (sorted_ranked b transitive key connected (take i xs) c.1)
+    pub best_first : (q : E → Bool) (xs : List E) → Apart key xs → reduce (λ g f. cond (b g f) g f) (filter q xs) ≡ first q (ranked b xs)
+    best_first q xs a = best_is (filter q xs) (apart_filter q key xs a) ∙ ap head (sym (filter-ranked q xs a)) ∙ sym (first-filter q (ranked b xs))

@@ -1,21 +1,28 @@
 // A long pseudo-random run on both kinds side by side: every answer is the same.
-use crate::queues::{buy, code, number_of};
+use crate::queues::buy;
 use heap_queue::HeapQueue;
 use orders::order::BuyOrder;
-use queue::Queue;
+use queue::{Queue, Ranked};
 use sorted_queue::SortedQueue;
 
-// One call, chosen by `x`, and a number for its answer.
-fn call<Q: Queue<BuyOrder>>(q: &mut Q, x: u32) -> u32 {
+// What a call answered: whether it was refused, and with which number, or the number of the order that it found.
+#[derive(Debug, Drop, PartialEq)]
+enum Answer {
+    Done(Result<(), u8>),
+    Found(Option<u32>),
+}
+
+// One call, chosen by `x`.
+fn call<Q: Queue<BuyOrder>>(q: &mut Q, x: u32) -> Answer {
     let number = x / 8 % 40;
     let e = buy(number, 100 + x / 320 % 7, x / 2_240 % 9, x / 20_160 % 64);
     match x % 8 {
-        0..=2 => u32::from(code(q.put(e))),
-        3 => u32::from(code(q.cut(number, x / 320 % 9))),
-        4 => number_of(q.take(number)),
-        5 => number_of(q.first_after(&e)),
-        6 => number_of(q.find(number)),
-        _ => number_of(q.first()),
+        0..=2 => Answer::Done(q.put(e).map_err(u8::from)),
+        3 => Answer::Done(q.cut(number, x / 320 % 9).map_err(u8::from)),
+        4 => Answer::Found(q.take(number).map(|o| o.number())),
+        5 => Answer::Found(q.first_after(&e).map(|o| o.number())),
+        6 => Answer::Found(q.find(number).map(|o| o.number())),
+        _ => Answer::Found(q.first().map(|o| o.number())),
     }
 }
 

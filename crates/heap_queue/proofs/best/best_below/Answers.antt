@@ -1,26 +1,18 @@
-use Rattle.std.proofs.Common.{◌≡◌, ◌+◌, ◌*◌, ◌<◌, not, get_or, sym, ap, ◌∙◌, arith}
-use Rattle.std.proofs.lemmas.List.{get_or_read}
-use Rattle.queue.proofs.Inserts.{other}
-use Rattle.heap_queue.proofs.HeapOrder.{apart_places}
+use Rattle.std.proofs.Common.{◌≡◌, ◌+◌, ◌*◌, get_or, sym, ap, ◌∙◌, arith}
+use Rattle.heap_queue.proofs.HeapOrder.{read_test, upper_first}
 use Rattle.heap_queue.proofs.best.best_below.Goals as goal
-use Rattle.heap_queue.proofs.best.best_below.Goals.{else-right-elements-via-then-right-elements+else-ranks_before, else-right-elements-via-else-right-elements}
+use Rattle.heap_queue.proofs.best.best_below.Goals.{else-right-heap-via-then-right-heap+else-ranks_before, else-right-heap-via-else-right-heap}
 
-pub returns : goal.returns
-returns g c =
+pub returns-else-right-heap-clause-best : goal.returns-else-right-heap-clause-best
+returns-else-right-heap-clause-best g c = λ a k p m e f d.
     let q = g.E.Ranked.rank in
-    let xs = c.args.elements.now in
-    let i = c.args.i in
-    record {
-      below = (omega arith, omega arith, omega arith);
-      best = λ a k p m e f d.
-          let r : k ≡ 2 * i + 1 + 1 = omega arith in
-          let less : 2 * i + 1 < k = omega arith in
-          elim c.else-right-elements.branch [
-            | else-right-elements-via-then-right-elements+else-ranks_before w ↦
-                let left : w.index-elements-left.result ≡ get_or xs (2 * i + 1) d = get_or_read xs (2 * i + 1) _ (omega arith) w.index-elements-left.is d in
-                let right : w.index-elements-right.result ≡ get_or xs k d = get_or_read xs (2 * i + 1 + 1) _ (omega arith) w.index-elements-right.is d ∙ ap (λ j. get_or xs j d) (sym r) in
-                other _ _ (g.met.E.Ranked.connected _ _ (λ z. apart_places q.key xs (2 * i + 1) k d less m a (sym z)))
-                ∙ ap not (ap (λ x. q.before x (get_or xs (2 * i + 1) d)) (sym right) ∙ ap (q.before w.index-elements-right.result) (sym left) ∙ sym w.ranks_before.ensures ∙ w.if-ranks_before.false)
-            | else-right-elements-via-else-right-elements w ↦ let z : ⊥ = omega (arith, w.if-right-elements.false) in absurd z
-          ];
-    }
+    let xs = c.args.heap.now in
+    let left = 2 * c.args.i + 1 in
+    let right : k ≡ left + 1 = omega arith in
+    elim c.else-right-heap.branch [
+      | else-right-heap-via-then-right-heap+else-ranks_before w ↦
+          let first = upper_first q.before xs q.key g.met.E.Ranked.connected a left (left + 1) d (omega arith) w.if-right-heap.true
+          (read_test q.before xs (left + 1) left _ _ d w.if-right-heap.true (omega arith) w.index-heap-right.is w.index-heap-left.is ∙ sym w.if-ranks_before.ensures) in
+          ap (λ j. q.before (get_or xs left d) (get_or xs j d)) right ∙ first
+      | else-right-heap-via-else-right-heap w ↦ let z : ⊥ = omega (arith, w.if-right-heap.false) in absurd z
+    ]

@@ -1,9 +1,9 @@
 -- A text of lines is taken apart into the same lines.
-use Rattle.std.proofs.Common.{◌≡◌, ℕ, ◌+◌, ◌%◌, ◌^◌, ◌<◌, List, [], ◌∷◌, ◌++◌, map, decimal, refl, ap, ◌∙◌, append_assoc, arith}
+use Rattle.std.proofs.Common.{◌≡◌, ℕ, ◌+◌, ◌%◌, ◌^◌, ◌<◌, List, [], ◌∷◌, ◌++◌, map, decimal, refl, append_assoc, arith}
 use Rattle.std.proofs.lemmas.Fmt.{decimal_by_steps}
 use Rattle.std.proofs.lemmas.Bool.{ne_eqb}
 use Rattle.std.specs.List.{AllByRecursion}
-use Rattle.tape.specs.Lines.{Word, line_end, line, spaced, lines_of}
+use Rattle.tape.specs.Lines.{Word, line_end, line, lines_of}
 
 -- no space and no end of a line
 abbrev pub Clean : Word → Type 0
@@ -40,8 +40,3 @@ pub line_back : (w : Word) (ws : List Word) (bs : List ℕ) → AllByRecursion C
 line_back w ws bs h =
     let one = word_back w (line_end ws ++ bs) ws (lines_of bs) h.0 (end_back ws bs h.1) in
     rw (append_assoc w (line_end ws) bs, one)
-
--- numbers, a space before each, and then the line's end
-pub spaced_end : (ns : List ℕ) → spaced ns ++ (10 ∷ []) ≡ line_end (map decimal ns)
-spaced_end [] = refl
-spaced_end (n ∷ ns) = ap (λ bs. 32 ∷ bs) (append_assoc (decimal n) (spaced ns) (10 ∷ []) ∙ ap (λ bs. decimal n ++ bs) (spaced_end ns))

@@ -3,6 +3,7 @@
 --   spaced ns     each number in decimal, a space before it
 --   lines_of bs    a text taken apart again into its lines and their words
 use Rattle.std.specs.Prelude.{ℕ, cond, List, [], ◌∷◌, ◌++◌, decimal, ◌==◌}
+use Rattle.std.specs.List.{flat_map}
 
 abbrev pub Word : Type 0
 Word = List ℕ
@@ -17,8 +18,7 @@ line [] = 10 ∷ []
 line (w ∷ ws) = w ++ line_end ws
 
 abbrev pub spaced : List ℕ → List ℕ
-spaced [] = []
-spaced (n ∷ ns) = 32 ∷ (decimal n ++ spaced ns)
+spaced = flat_map (λ n. 32 ∷ decimal n)
 
 -- a byte before the first word of the first line
 abbrev pub onto_word : ℕ → List (List Word) → List (List Word)

@@ -1,7 +1,7 @@
 -- The printed lines, read back.
 use Rattle.std.proofs.Common.{◌≡◌, ℕ, zero, suc, ◌+◌, ◌-◌, ◌^◌, ◌<◌, ◌≤◌, Bool, true, not, ◌&&◌, eqb, ltb, List, [], ◌∷◌, ◌++◌, map, length, get_or, take, drop, Some, None, Ok, Err, codes, decimal, Option, Result, sym, refl, ap, ◌∙◌, subst, ⊎_elim, arith, length-append}
 use Rattle.std.proofs.lemmas.Fmt.{decimal_is_IsNumeral}
-use Rattle.std.proofs.lemmas.Bool.{cases_Bool, cond-true, cond-false, and_parts, both_ways, not-true, eq-eqb, le-ltb}
+use Rattle.std.proofs.lemmas.Bool.{cases_Bool, cond-true, cond-false, and_parts, both_ways, not-true, eq-eqb}
 use Rattle.std.specs.Str.Parse.{digits_value}
 use Rattle.std.specs.List.{flat_map, AllByRecursion}
 use Rattle.terms.proofs.Setups.{refused}
@@ -175,7 +175,7 @@ setup_read tape s rest e =
     (λ t. sym (cond-false (ltb 4096 (length tape)) (Err TapeTooLong) (read_setup tape) t) ∙ e)
     (cases_Bool (ltb 4096 (length tape)))
 
-setup_known : (tape : List ℕ) (s : Setup) (rest : List ℕ) → Bytes tape → setup_of tape ≡ Ok (s, rest) → Encodable (setup_numbers s) × Bytes rest × (length rest ≤ length tape)
+pub setup_known : (tape : List ℕ) (s : Setup) (rest : List ℕ) → Bytes tape → setup_of tape ≡ Ok (s, rest) → Encodable (setup_numbers s) × Bytes rest × (length rest ≤ length tape)
 setup_known tape s rest fits e =
     let read = setup_read tape s rest e in
     let h = setup_only tape s rest fits read in
@@ -184,12 +184,6 @@ setup_known tape s rest fits e =
 
 pub dump_back : (tape : List ℕ) → Bytes tape → length tape < 2 ^ 64 → map entry_of (take (length (reading_of tape).messages) (drop 1 (lines_of (dumped tape)))) ≡ map Some (reading_of tape).messages
 dump_back tape fits h = setup_back tape (setup_of tape) fits h (λ s rest e. setup_known tape s rest fits e)
-
--- a tape that is not too long is printed by what its set-up reads as
-pub dumped_read : (tape : List ℕ) (r : Result (Setup × List ℕ) Refusal) → length tape ≤ 4096 → r ≡ read_setup tape → flat_map line (setup_lines r ++ reading_lines (behind_setup (length tape) r)) ≡ dumped tape
-dumped_read tape r short e =
-    ap (λ q. flat_map line (setup_lines q ++ reading_lines (behind_setup (length tape) q)))
-    (e ∙ sym (cond-false (ltb 4096 (length tape)) (Err TapeTooLong) (read_setup tape) (le-ltb 4096 (length tape) short)))
 
 -- what was read of a tape is what stands on it
 pub dump_covers : (tape : List ℕ) → Bytes tape → (s : Setup) (rest : List ℕ) → setup_of tape ≡ Ok (s, rest) → (tape ≡ encoded_setup s ++ rest) × Covers (length (encoded_setup s)) rest (reading_of tape)

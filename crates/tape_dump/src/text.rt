@@ -1,102 +1,77 @@
-// Lines of text at the end of a vector.
-ghost use Rattle.std.specs.Prelude.{◌≡◌, ◌∷◌, ◌++◌, decimal, OnOk};
+// The lines that are printed for a tape.
+ghost use Rattle.std.specs.Prelude.{◌≡◌, ◌∷◌, ◌++◌, Some, string_bytes, OnOk};
 ghost use Rattle.tape.specs.Lines.{line, spaced};
-ghost use Rattle.terms.specs.Messages.{numbers_for};
+ghost use Rattle.terms.specs.Messages.{letter_for, numbers_for};
+ghost use Rattle.terms.specs.Values.{letter_byte};
 ghost use Rattle.tape_dump.specs.Dumps.{setup_words, message_words, stop_words, count_words};
 
 use std::alloc::AllocError;
-use tape::decimal::write_decimal;
-use terms::message::{Message, OrderEntry};
+use std::fmt;
+use terms::message::Message;
 use terms::refusal::Refusal;
 use terms::setup::Setup;
 
-// A number in decimal.
-fn push_decimal(text: &mut Vec<u8>, n: u64) -> Result<(), AllocError>
-    ensures { OnOk result (text.new.items ≡ text.old.items ++ decimal n) }
-{
-    let mut digits = [0; 20];
-    match write_decimal(&mut digits, 0, n) {
-        Some(end) => text.extend_from_slice(&digits[0..end]),
-        None => unreachable(),
+// Numbers, a space before each.
+#[derive(Clone, Copy)]
+struct Spaced<'a>(&'a [u32]);
+
+impl fmt::Display for Spaced<'_> {
+    ghost output = { λ numbers. Some (spaced numbers.0.now) };
+
+    fn fmt<W: fmt::Write>(&self, f: &mut fmt::Formatter<W>) -> fmt::Result {
+        for n in self.0 {
+            write!(f, " {n}")?;
+        }
+        Ok(())
     }
 }
 
-// A space and a number in decimal.
-fn push_number(text: &mut Vec<u8>, n: u64) -> Result<(), AllocError>
-    ensures { OnOk result (text.new.items ≡ text.old.items ++ (32 ∷ decimal n)) }
-{
-    text.push(b' ')?;
-    push_decimal(text, n)?;
-    Ok(())
-}
+// The letter of a message, and the numbers of its body.
+#[derive(Clone, Copy)]
+struct Words<'a>(&'a Message);
 
-// Numbers in decimal, a space before each.
-fn push_numbers(text: &mut Vec<u8>, numbers: &[u32]) -> Result<(), AllocError>
-    ensures { OnOk result (text.new.items ≡ text.old.items ++ spaced numbers.now) }
-{
-    for n in numbers {
-        push_number(text, u64::from(*n))?;
-    }
-    Ok(())
-}
+impl fmt::Display for Words<'_> {
+    ghost output = { λ words. Some (letter_byte (letter_for words.0.now) ∷ spaced (numbers_for words.0.now)) };
 
-// The numbers of a message's body, a space before each.
-fn push_body(text: &mut Vec<u8>, message: &Message) -> Result<(), AllocError>
-    ensures { OnOk result (text.new.items ≡ text.old.items ++ spaced (numbers_for message.now)) }
-{
-    match *message {
-        Message::Buy(o) | Message::Sell(o) | Message::ImmediateBuy(o) | Message::ImmediateSell(o) =>
-            push_numbers(text, &[o.member, o.price, o.lots]),
-        Message::Change(c) => push_numbers(text, &[c.member, c.order, c.price, c.lots]),
-        Message::Cancel(c) => push_numbers(text, &[c.member, c.order]),
-        Message::Quote(q) => push_numbers(
-            text,
-            &[q.bid_price, q.bid_lots, q.ask_price, q.ask_lots],
-        ),
-        Message::Renew | Message::Halt | Message::Resume | Message::End => Ok(()),
+    fn fmt<W: fmt::Write>(&self, f: &mut fmt::Formatter<W>) -> fmt::Result {
+        write!(f, "{}", self.0.letter())?;
+        match *self.0 {
+            Message::Buy(o)
+            | Message::Sell(o)
+            | Message::ImmediateBuy(o)
+            | Message::ImmediateSell(o) => write!(f, "{}", Spaced(&<[u32; 3]>::from(o))),
+            Message::Change(c) => write!(f, "{}", Spaced(&<[u32; 4]>::from(c))),
+            Message::Cancel(c) => write!(f, "{}", Spaced(&<[u32; 2]>::from(c))),
+            Message::Quote(q) => write!(f, "{}", Spaced(&<[u32; 4]>::from(q))),
+            Message::Renew | Message::Halt | Message::Resume | Message::End => Ok(()),
+        }
     }
 }
 
 // The line of the set-up.
-pub fn push_setup(text: &mut Vec<u8>, setup: &Setup) -> Result<(), AllocError>
-    ensures { OnOk result (text.new.items ≡ text.old.items ++ line (setup_words setup.now)) }
+pub fn push_setup(text: &mut String, setup: &Setup) -> Result<(), AllocError>
+    ensures { OnOk result (string_bytes text.new ≡ string_bytes text.old ++ line (setup_words setup.now)) }
 {
-    text.extend_from_slice(b"0 set-up")?;
-    push_numbers(text, &<[u32; 9]>::from(*setup))?;
-    text.push(b'\n')?;
-    Ok(())
+    writeln!(text, "0 set-up{}", Spaced(&<[u32; 9]>::from(*setup)))
 }
 
 // The line of a message whose letter stands at `place`.
-pub fn push_message(text: &mut Vec<u8>, place: usize, message: &Message) -> Result<(), AllocError>
-    ensures { OnOk result (text.new.items ≡ text.old.items ++ line (message_words (record { place = place; message = message.now }))) }
+pub fn push_message(text: &mut String, place: usize, message: &Message) -> Result<(), AllocError>
+    ensures { OnOk result (string_bytes text.new ≡ string_bytes text.old ++ line (message_words (record { place = place; message = message.now }))) }
 {
-    push_decimal(text, place as u64)?;
-    text.push(b' ')?;
-    text.push(u8::from(message.letter()))?;
-    push_body(text, message)?;
-    text.push(b'\n')?;
-    Ok(())
+    writeln!(text, "{place} {}", Words(message))
 }
 
 // The line of the refusal that ends the reading.
-pub fn push_stop(text: &mut Vec<u8>, refusal: Refusal, place: usize) -> Result<(), AllocError>
-    ensures { OnOk result (text.new.items ≡ text.old.items ++ line (stop_words refusal place)) }
+pub fn push_stop(text: &mut String, refusal: Refusal, place: usize) -> Result<(), AllocError>
+    ensures { OnOk result (string_bytes text.new ≡ string_bytes text.old ++ line (stop_words refusal place)) }
 {
-    text.push(b'X')?;
-    push_number(text, u64::from(u8::from(refusal)))?;
-    push_number(text, place as u64)?;
-    text.push(b'\n')?;
-    Ok(())
+    writeln!(text, "X {} {place}", u8::from(refusal))
 }
 
 // The last line: how many messages and bytes were read.
-pub fn push_count(text: &mut Vec<u8>, messages: usize, bytes: usize) -> Result<(), AllocError>
-    ensures { OnOk result (text.new.items ≡ text.old.items ++ line (count_words messages bytes)) }
+pub fn push_count(text: &mut String, messages: usize, bytes: usize) -> Result<(), AllocError>
+    ensures { OnOk result (string_bytes text.new ≡ string_bytes text.old ++ line (count_words messages bytes)) }
 {
-    push_decimal(text, messages as u64)?;
-    text.extend_from_slice(b" messages,")?;
-    push_number(text, bytes as u64)?;
-    text.extend_from_slice(b" bytes\n")?;
-    Ok(())
+    writeln!(text, "{messages} messages, {bytes} bytes")
 }

@@ -1,11 +1,12 @@
 // The letters of a tape's messages, and the two numbers of its set-up that choose a kind.
-ghost use Rattle.std.specs.Prelude.{◌≡◌, Some};
+ghost use Rattle.std.specs.Prelude.{◌≡◌, [], ◌∷◌, Some};
 ghost use Rattle.std.specs.Option.{ok_or};
 ghost use Rattle.terms.specs.declared.refusal.Refusal.TheVariants.{OutsideLimits, UnknownLetter};
 ghost use Rattle.terms.specs.Values.{letter_byte, letter_of, make_number, make_of, market_number, market_of};
 
 use crate::refusal::Refusal;
 use std::convert::TryFrom;
+use std::fmt;
 
 #[derive(Clone, Copy, Debug, PartialEq, Eq)]
 pub enum Letter {
@@ -52,6 +53,15 @@ impl TryFrom<u8> for Letter {
             b'E' => Ok(Letter::End),
             _ => Err(Refusal::UnknownLetter),
         }
+    }
+}
+
+// The letter as a character.
+impl fmt::Display for Letter {
+    ghost output = { λ letter. Some (letter_byte letter ∷ []) };
+
+    fn fmt<W: fmt::Write>(&self, f: &mut fmt::Formatter<W>) -> fmt::Result {
+        f.write_char(char::from(u8::from(*self)))
     }
 }
 

@@ -1,6 +1,0 @@
-use Rattle.std.proofs.Common.{append_assoc, rules}
-use Rattle.tape.proofs.Words.{spaced_end}
-use Rattle.tape_dump.proofs.text.push_message.Goals as goal
-
-pub returns : goal.returns
-returns c = search (rules, append_assoc, spaced_end)

@@ -1,4 +1,5 @@
-pub mod Sides
+pub mod OnSides
+pub mod Carrying
 pub mod Changes
 pub mod Replies
 pub mod Plays

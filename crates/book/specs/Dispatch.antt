@@ -3,12 +3,12 @@ use Rattle.std.specs.Prelude.{ℕ, Bool, true, false, List, [], ◌∷◌, Ok, E
 use Rattle.terms.specs.declared.message.Message.{Message}
 use Rattle.terms.specs.declared.message.Message.TheVariants as message
 use Rattle.terms.specs.declared.refusal.Refusal.{Refusal}
+use Rattle.terms.specs.declared.side.Side.{Side}
 use Rattle.terms.specs.declared.side.Side.TheVariants.{Buy, Sell}
 use Rattle.terms.specs.declared.side.TimeInForce.TheVariants.{Day, Immediate}
 use Rattle.terms.specs.declared.trade.Answer.{Answer}
 use Rattle.queue.specs.Held.{Held}
-use Rattle.orders.specs.declared.order.BuyOrder.{BuyOrder}
-use Rattle.orders.specs.declared.order.SellOrder.{SellOrder}
+use Rattle.orders.specs.declared.order.Order.{Order}
 use Rattle.rules.specs.Book as book
 use Rattle.rules.specs.Calls as calls
 use Rattle.book.specs.Books.{waiting_book, trading_book, halted_book, closed_book}
@@ -54,7 +54,7 @@ abbrev pub reply_to : Result Answer Refusal → Result Reply Refusal
 reply_to (Ok a) = Ok (reply.Answer a)
 reply_to (Err e) = Err e
 
-abbrev pub phase_book : Phase → Held BuyOrder → Held SellOrder → book.Answers → book.Book
+abbrev pub phase_book : Phase → (Side → Held Order) → book.Answers → book.Book
 phase_book (phase.Waiting p) = waiting_book p
 phase_book (phase.Trading p) = trading_book p
 phase_book (phase.Halted p) = halted_book p

@@ -5,9 +5,12 @@ ghost use Rattle.rules.specs.ByRule.{ByRule, event_of};
 ghost use Rattle.rules.specs.Calls as calls;
 ghost use Rattle.rules.specs.Keeps.{Keeps};
 ghost use Rattle.book.specs.Books.{waiting_book, trading_book, halted_book, closed_book, outcome_of};
+ghost use Rattle.book.specs.Sided.{side_held};
+ghost use Rattle.terms.specs.declared.side.Side.{Side as AnySide};
 ghost use Rattle.book.specs.Dispatch.{call_of, message_of, replied, reply_to, phase_book, stays};
 
 use crate::phase::{Book, Closed, Halted, Trading, Waiting};
+use crate::sides::Sides;
 use orders::Sided;
 use orders::order::{BuyOrder, SellOrder};
 use price_range::PriceRange;
@@ -58,25 +61,25 @@ fn as_reply(res: Result<Answer, Refusal>) -> Result<Reply, Refusal>
 
 impl Book<Waiting> {
     // Any message on this phase.
-    fn message<B: Queue<BuyOrder>, S: Queue<SellOrder>, R: PriceRange>(
+    fn message<D: Sides, R: PriceRange>(
         self,
         message: Message,
-        buys: &mut B,
-        sells: &mut S,
+        sides: &mut D,
         range: &mut R,
         trades: &mut [Trade],
     ) -> (Phase, Result<Reply, Refusal>)
-        ensures refused { OnErr result.1 ((result.0 ≡ Phase.Waiting self) × (buys.new ≡ buys.old) × (sells.new ≡ sells.old) × (range.new ≡ range.old) × (trades.new ≡ trades.old)) }
-        ensures keeps { (B.Queue.lawful buys.old → B.Queue.lawful buys.new) × (S.Queue.lawful sells.old → S.Queue.lawful sells.new) }
-        ensures by_rule { B.Queue.lawful buys.old → S.Queue.lawful sells.old → ByRule (message_of message (length trades.old)) (waiting_book self (B.Queue.held buys.old) (S.Queue.held sells.old) (R.PriceRange.answers range.old)) (replied result.1) trades.old trades.new (phase_book result.0 (B.Queue.held buys.new) (S.Queue.held sells.new) (R.PriceRange.answers range.new)) }
+        ensures refused { OnErr result.1 ((result.0 ≡ Phase.Waiting self) × (sides.new ≡ sides.old) × (range.new ≡ range.old) × (trades.new ≡ trades.old)) }
+        ensures keeps { (s : AnySide) → D.lawful sides.old s → D.lawful sides.new s }
+        ensures same { D.same_queues sides.old sides.new }
+        ensures by_rule { ((s : AnySide) → D.lawful sides.old s) → ByRule (message_of message (length trades.old)) (waiting_book self (D.held sides.old) (R.PriceRange.answers range.old)) (replied result.1) trades.old trades.new (phase_book result.0 (D.held sides.new) (R.PriceRange.answers range.new)) }
     {
         match message {
-            Message::Quote(entry) => match self.quote(entry, buys, sells, range, trades) {
+            Message::Quote(entry) => match self.quote(entry, sides, range, trades) {
                 Ok((trading, answer)) => (Phase::Trading(trading), Ok(Reply::Answer(answer))),
                 Err((waiting, refusal)) => (Phase::Waiting(waiting), Err(refusal)),
             },
             Message::End => {
-                let (closed, answer) = self.end(buys, sells);
+                let (closed, answer) = self.end(sides);
                 (Phase::Closed(closed), Ok(Reply::Answer(answer)))
             }
             _ => (Phase::Waiting(self), Err(Refusal::WrongPhase)),
@@ -86,25 +89,24 @@ impl Book<Waiting> {
 
 impl Book<Trading> {
     // A message that leaves the book trading; any other is refused.
-    fn trade<B: Queue<BuyOrder>, S: Queue<SellOrder>, R: PriceRange>(
+    fn trade<D: Sides, R: PriceRange>(
         &mut self,
         message: Message,
-        buys: &mut B,
-        sells: &mut S,
+        sides: &mut D,
         range: &mut R,
         trades: &mut [Trade],
     ) -> Result<Answer, Refusal>
-        ensures refused { OnErr result ((self.new ≡ self.old) × (buys.new ≡ buys.old) × (sells.new ≡ sells.old) × (range.new ≡ range.old) × (trades.new ≡ trades.old)) }
-        ensures keeps { (B.Queue.lawful buys.old → B.Queue.lawful buys.new) × (S.Queue.lawful sells.old → S.Queue.lawful sells.new) }
-        ensures by_rule { B.Queue.lawful buys.old → S.Queue.lawful sells.old → stays message ≡ true → ByRule (message_of message (length trades.old)) (trading_book self.old (B.Queue.held buys.old) (S.Queue.held sells.old) (R.PriceRange.answers range.old)) (outcome_of result) trades.old trades.new (trading_book self.new (B.Queue.held buys.new) (S.Queue.held sells.new) (R.PriceRange.answers range.new)) }
+        ensures refused { OnErr result ((self.new ≡ self.old) × (sides.new ≡ sides.old) × (range.new ≡ range.old) × (trades.new ≡ trades.old)) }
+        ensures keeps { (s : AnySide) → D.lawful sides.old s → D.lawful sides.new s }
+        ensures same { D.same_queues sides.old sides.new }
+        ensures by_rule { ((s : AnySide) → D.lawful sides.old s) → stays message ≡ true → ByRule (message_of message (length trades.old)) (trading_book self.old (D.held sides.old) (R.PriceRange.answers range.old)) (outcome_of result) trades.old trades.new (trading_book self.new (D.held sides.new) (R.PriceRange.answers range.new)) }
     {
         match message {
             Message::Buy(entry) => self.order(
                 Side::Buy,
                 TimeInForce::Day,
                 entry,
-                buys,
-                sells,
+                sides,
                 range,
                 trades,
             ),
@@ -112,8 +114,7 @@ impl Book<Trading> {
                 Side::Sell,
                 TimeInForce::Day,
                 entry,
-                buys,
-                sells,
+                sides,
                 range,
                 trades,
             ),
@@ -121,8 +122,7 @@ impl Book<Trading> {
                 Side::Buy,
                 TimeInForce::Immediate,
                 entry,
-                buys,
-                sells,
+                sides,
                 range,
                 trades,
             ),
@@ -130,15 +130,14 @@ impl Book<Trading> {
                 Side::Sell,
                 TimeInForce::Immediate,
                 entry,
-                buys,
-                sells,
+                sides,
                 range,
                 trades,
             ),
-            Message::Change(change) => self.change(change, buys, sells, range, trades),
-            Message::Cancel(cancel) => self.cancel(cancel, buys, sells),
-            Message::Quote(entry) => self.quote(entry, buys, sells, range, trades),
-            Message::Renew => self.renew(buys, sells, range, trades),
+            Message::Change(change) => self.change(change, sides, range, trades),
+            Message::Cancel(cancel) => self.cancel(cancel, sides),
+            Message::Quote(entry) => self.quote(entry, sides, range, trades),
+            Message::Renew => self.renew(sides, range, trades),
             Message::Halt | Message::Resume | Message::End => Err(Refusal::WrongPhase),
         }
     }
@@ -146,27 +145,27 @@ impl Book<Trading> {
 
 impl Book<Trading> {
     // Any message on this phase.
-    fn message<B: Queue<BuyOrder>, S: Queue<SellOrder>, R: PriceRange>(
+    fn message<D: Sides, R: PriceRange>(
         mut self,
         message: Message,
-        buys: &mut B,
-        sells: &mut S,
+        sides: &mut D,
         range: &mut R,
         trades: &mut [Trade],
     ) -> (Phase, Result<Reply, Refusal>)
-        ensures refused { OnErr result.1 ((result.0 ≡ Phase.Trading self) × (buys.new ≡ buys.old) × (sells.new ≡ sells.old) × (range.new ≡ range.old) × (trades.new ≡ trades.old)) }
-        ensures keeps { (B.Queue.lawful buys.old → B.Queue.lawful buys.new) × (S.Queue.lawful sells.old → S.Queue.lawful sells.new) }
-        ensures by_rule { B.Queue.lawful buys.old → S.Queue.lawful sells.old → ByRule (message_of message (length trades.old)) (trading_book self (B.Queue.held buys.old) (S.Queue.held sells.old) (R.PriceRange.answers range.old)) (replied result.1) trades.old trades.new (phase_book result.0 (B.Queue.held buys.new) (S.Queue.held sells.new) (R.PriceRange.answers range.new)) }
+        ensures refused { OnErr result.1 ((result.0 ≡ Phase.Trading self) × (sides.new ≡ sides.old) × (range.new ≡ range.old) × (trades.new ≡ trades.old)) }
+        ensures keeps { (s : AnySide) → D.lawful sides.old s → D.lawful sides.new s }
+        ensures same { D.same_queues sides.old sides.new }
+        ensures by_rule { ((s : AnySide) → D.lawful sides.old s) → ByRule (message_of message (length trades.old)) (trading_book self (D.held sides.old) (R.PriceRange.answers range.old)) (replied result.1) trades.old trades.new (phase_book result.0 (D.held sides.new) (R.PriceRange.answers range.new)) }
     {
         match message {
             Message::Halt => (Phase::Halted(self.halt()), Ok(Reply::Answer(NOTHING))),
             Message::End => {
-                let (closed, answer) = self.end(buys, sells);
+                let (closed, answer) = self.end(sides);
                 (Phase::Closed(closed), Ok(Reply::Answer(answer)))
             }
             Message::Resume => (Phase::Trading(self), Err(Refusal::WrongPhase)),
             _ => {
-                let result = self.trade(message, buys, sells, range, trades);
+                let result = self.trade(message, sides, range, trades);
                 (Phase::Trading(self), as_reply(result))
             }
         }
@@ -175,30 +174,30 @@ impl Book<Trading> {
 
 impl Book<Halted> {
     // Any message on this phase.
-    fn message<B: Queue<BuyOrder>, S: Queue<SellOrder>, R: PriceRange>(
+    fn message<D: Sides, R: PriceRange>(
         mut self,
         message: Message,
-        buys: &mut B,
-        sells: &mut S,
+        sides: &mut D,
         range: &mut R,
         trades: &mut [Trade],
     ) -> (Phase, Result<Reply, Refusal>)
-        ensures refused { OnErr result.1 ((result.0 ≡ Phase.Halted self) × (buys.new ≡ buys.old) × (sells.new ≡ sells.old) × (range.new ≡ range.old) × (trades.new ≡ trades.old)) }
-        ensures keeps { (B.Queue.lawful buys.old → B.Queue.lawful buys.new) × (S.Queue.lawful sells.old → S.Queue.lawful sells.new) }
-        ensures by_rule { B.Queue.lawful buys.old → S.Queue.lawful sells.old → ByRule (message_of message (length trades.old)) (halted_book self (B.Queue.held buys.old) (S.Queue.held sells.old) (R.PriceRange.answers range.old)) (replied result.1) trades.old trades.new (phase_book result.0 (B.Queue.held buys.new) (S.Queue.held sells.new) (R.PriceRange.answers range.new)) }
+        ensures refused { OnErr result.1 ((result.0 ≡ Phase.Halted self) × (sides.new ≡ sides.old) × (range.new ≡ range.old) × (trades.new ≡ trades.old)) }
+        ensures keeps { (s : AnySide) → D.lawful sides.old s → D.lawful sides.new s }
+        ensures same { D.same_queues sides.old sides.new }
+        ensures by_rule { ((s : AnySide) → D.lawful sides.old s) → ByRule (message_of message (length trades.old)) (halted_book self (D.held sides.old) (R.PriceRange.answers range.old)) (replied result.1) trades.old trades.new (phase_book result.0 (D.held sides.new) (R.PriceRange.answers range.new)) }
     {
         match message {
             Message::Change(change) => {
-                let result = self.change(change, buys, sells);
+                let result = self.change(change, sides);
                 (Phase::Halted(self), as_reply(result))
             }
             Message::Cancel(cancel) => {
-                let result = self.cancel(cancel, buys, sells);
+                let result = self.cancel(cancel, sides);
                 (Phase::Halted(self), as_reply(result))
             }
             Message::Resume => (Phase::Waiting(self.resume()), Ok(Reply::Answer(NOTHING))),
             Message::End => {
-                let (closed, answer) = self.end(buys, sells);
+                let (closed, answer) = self.end(sides);
                 (Phase::Closed(closed), Ok(Reply::Answer(answer)))
             }
             _ => (Phase::Halted(self), Err(Refusal::WrongPhase)),
@@ -208,22 +207,22 @@ impl Book<Halted> {
 
 impl Phase {
     // Any message on any phase.
-    fn message<B: Queue<BuyOrder>, S: Queue<SellOrder>, R: PriceRange>(
+    fn message<D: Sides, R: PriceRange>(
         self,
         message: Message,
-        buys: &mut B,
-        sells: &mut S,
+        sides: &mut D,
         range: &mut R,
         trades: &mut [Trade],
     ) -> (Phase, Result<Reply, Refusal>)
-        ensures refused { OnErr result.1 ((result.0 ≡ self) × (buys.new ≡ buys.old) × (sells.new ≡ sells.old) × (range.new ≡ range.old) × (trades.new ≡ trades.old)) }
-        ensures keeps { (B.Queue.lawful buys.old → B.Queue.lawful buys.new) × (S.Queue.lawful sells.old → S.Queue.lawful sells.new) }
-        ensures by_rule { B.Queue.lawful buys.old → S.Queue.lawful sells.old → ByRule (message_of message (length trades.old)) (phase_book self (B.Queue.held buys.old) (S.Queue.held sells.old) (R.PriceRange.answers range.old)) (replied result.1) trades.old trades.new (phase_book result.0 (B.Queue.held buys.new) (S.Queue.held sells.new) (R.PriceRange.answers range.new)) }
+        ensures refused { OnErr result.1 ((result.0 ≡ self) × (sides.new ≡ sides.old) × (range.new ≡ range.old) × (trades.new ≡ trades.old)) }
+        ensures keeps { (s : AnySide) → D.lawful sides.old s → D.lawful sides.new s }
+        ensures same { D.same_queues sides.old sides.new }
+        ensures by_rule { ((s : AnySide) → D.lawful sides.old s) → ByRule (message_of message (length trades.old)) (phase_book self (D.held sides.old) (R.PriceRange.answers range.old)) (replied result.1) trades.old trades.new (phase_book result.0 (D.held sides.new) (R.PriceRange.answers range.new)) }
     {
         match self {
-            Phase::Waiting(waiting) => waiting.message(message, buys, sells, range, trades),
-            Phase::Trading(trading) => trading.message(message, buys, sells, range, trades),
-            Phase::Halted(halted) => halted.message(message, buys, sells, range, trades),
+            Phase::Waiting(waiting) => waiting.message(message, sides, range, trades),
+            Phase::Trading(trading) => trading.message(message, sides, range, trades),
+            Phase::Halted(halted) => halted.message(message, sides, range, trades),
             Phase::Closed(closed) => (Phase::Closed(closed), Err(Refusal::WrongPhase)),
         }
     }
@@ -234,8 +233,8 @@ impl Phase {
         buys: &B,
         sells: &S,
     ) -> (u128, u128)
-        ensures by_rule { B.Queue.lawful buys.now → S.Queue.lawful sells.now → ((range : Answers) → ByRule calls.resting (phase_book self.now (B.Queue.held buys.now) (S.Queue.held sells.now) range) (calls.lots result.0 result.1) [] [] (phase_book self.now (B.Queue.held buys.now) (S.Queue.held sells.now) range)) }
-        ensures day { B.Queue.lawful buys.now → S.Queue.lawful sells.now → ((range : Answers) → Keeps (phase_book self.now (B.Queue.held buys.now) (S.Queue.held sells.now) range) (event_of calls.resting (calls.lots result.0 result.1) []) (phase_book self.now (B.Queue.held buys.now) (S.Queue.held sells.now) range)) }
+        ensures by_rule { B.Queue.lawful buys.now → S.Queue.lawful sells.now → ((range : Answers) → ByRule calls.resting (phase_book self.now (side_held (B.Queue.held buys.now) (S.Queue.held sells.now)) range) (calls.lots result.0 result.1) [] [] (phase_book self.now (side_held (B.Queue.held buys.now) (S.Queue.held sells.now)) range)) }
+        ensures day { B.Queue.lawful buys.now → S.Queue.lawful sells.now → ((range : Answers) → Keeps (phase_book self.now (side_held (B.Queue.held buys.now) (S.Queue.held sells.now)) range) (event_of calls.resting (calls.lots result.0 result.1) []) (phase_book self.now (side_held (B.Queue.held buys.now) (S.Queue.held sells.now)) range)) }
     {
         match self {
             Phase::Waiting(waiting) => waiting.resting(buys, sells),
@@ -246,23 +245,23 @@ impl Phase {
     }
 
     // Any call on any phase. What the phase does not allow is refused.
-    pub fn call<B: Queue<BuyOrder>, S: Queue<SellOrder>, R: PriceRange>(
+    pub fn call<D: Sides, R: PriceRange>(
         self,
         call: Call,
-        buys: &mut B,
-        sells: &mut S,
+        sides: &mut D,
         range: &mut R,
         trades: &mut [Trade],
     ) -> (Phase, Result<Reply, Refusal>)
-        ensures refused { OnErr result.1 ((result.0 ≡ self) × (buys.new ≡ buys.old) × (sells.new ≡ sells.old) × (range.new ≡ range.old) × (trades.new ≡ trades.old)) }
-        ensures keeps { (B.Queue.lawful buys.old → B.Queue.lawful buys.new) × (S.Queue.lawful sells.old → S.Queue.lawful sells.new) }
-        ensures by_rule { B.Queue.lawful buys.old → S.Queue.lawful sells.old → ByRule (call_of call (length trades.old)) (phase_book self (B.Queue.held buys.old) (S.Queue.held sells.old) (R.PriceRange.answers range.old)) (replied result.1) trades.old trades.new (phase_book result.0 (B.Queue.held buys.new) (S.Queue.held sells.new) (R.PriceRange.answers range.new)) }
-        ensures day { B.Queue.lawful buys.old → S.Queue.lawful sells.old → Keeps (phase_book self (B.Queue.held buys.old) (S.Queue.held sells.old) (R.PriceRange.answers range.old)) (event_of (call_of call (length trades.old)) (replied result.1) trades.new) (phase_book result.0 (B.Queue.held buys.new) (S.Queue.held sells.new) (R.PriceRange.answers range.new)) }
+        ensures refused { OnErr result.1 ((result.0 ≡ self) × (sides.new ≡ sides.old) × (range.new ≡ range.old) × (trades.new ≡ trades.old)) }
+        ensures keeps { (s : AnySide) → D.lawful sides.old s → D.lawful sides.new s }
+        ensures same { D.same_queues sides.old sides.new }
+        ensures by_rule { ((s : AnySide) → D.lawful sides.old s) → ByRule (call_of call (length trades.old)) (phase_book self (D.held sides.old) (R.PriceRange.answers range.old)) (replied result.1) trades.old trades.new (phase_book result.0 (D.held sides.new) (R.PriceRange.answers range.new)) }
+        ensures day { ((s : AnySide) → D.lawful sides.old s) → Keeps (phase_book self (D.held sides.old) (R.PriceRange.answers range.old)) (event_of (call_of call (length trades.old)) (replied result.1) trades.new) (phase_book result.0 (D.held sides.new) (R.PriceRange.answers range.new)) }
     {
         match call {
-            Call::Message(message) => self.message(message, buys, sells, range, trades),
+            Call::Message(message) => self.message(message, sides, range, trades),
             Call::Resting => {
-                let (buying, selling) = self.resting(buys, sells);
+                let (buying, selling) = (sides.lots(Side::Buy), sides.lots(Side::Sell));
                 (self, Ok(Reply::Resting(buying, selling)))
             }
         }

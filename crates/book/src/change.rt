@@ -1,5 +1,6 @@
 // Changes of an order.
 ghost use Rattle.std.specs.Prelude.{◌≡◌, ◌-◌, ◌≤◌, [], length, OnErr};
+ghost use Rattle.terms.specs.declared.side.Side.{Side as AnySide};
 ghost use Rattle.orders.specs.Priority.{rank_of};
 ghost use Rattle.queue.specs.Held.{after_cut};
 ghost use Rattle.rules.specs.Book.{Answers, other, pick};
@@ -8,17 +9,14 @@ ghost use Rattle.rules.specs.Calls as calls;
 ghost use Rattle.rules.specs.Keeps.{Keeps};
 ghost use Rattle.rules.specs.Rules.{changing};
 ghost use Rattle.book.specs.Books.{trading_book, halted_book, outcome_of};
-ghost use Rattle.book.specs.Matching.{plain_buys, plain_sells};
 
 use crate::change_checks::{Setting, keeps_place};
-use crate::find::{cut_on, put_on, take_on};
 use crate::lots::traded_lots;
-use crate::matching::enter_on;
+use crate::matching::enter;
 use crate::phase::{Book, Halted, Trading};
-use orders::Sided;
-use orders::order::{BuyOrder, Found, Order, SellOrder};
+use crate::sides::Sides;
+use orders::order::{Found, Order};
 use price_range::PriceRange;
-use queue::Queue;
 use terms::message::OrderChange;
 use terms::refusal::Refusal;
 use terms::trade::{Answer, Trade};
@@ -56,50 +54,45 @@ fn change_answer(
 }
 
 // Takes lots off an order in its place.
-fn lower<B: Queue<BuyOrder>, S: Queue<SellOrder>>(
-    change: &OrderChange,
-    found: &Found,
-    buys: &mut B,
-    sells: &mut S,
-) -> Answer
-    ensures keeps { (B.Queue.lawful buys.old → B.Queue.lawful buys.new) × (S.Queue.lawful sells.old → S.Queue.lawful sells.new) }
+fn lower<D: Sides>(change: &OrderChange, found: &Found, sides: &mut D) -> Answer
+    ensures keeps { (s : AnySide) → D.lawful sides.old s → D.lawful sides.new s }
+    ensures same { D.same_queues sides.old sides.new }
     ensures answers { result ≡ record { number = change.now.order; traded = 0; resting = change.now.lots; cancelled = found.now.order.lots - change.now.lots; trades = 0 } }
-    ensures cuts { B.Queue.lawful buys.old → S.Queue.lawful sells.old → ((pick found.now.side (plain_buys (B.Queue.held buys.new)) (plain_sells (S.Queue.held sells.new))) ≡ after_cut (rank_of found.now.side) (pick found.now.side (plain_buys (B.Queue.held buys.old)) (plain_sells (S.Queue.held sells.old))) change.now.order (found.now.order.lots - change.now.lots)) × ((pick (other found.now.side) (plain_buys (B.Queue.held buys.new)) (plain_sells (S.Queue.held sells.new))) ≡ (pick (other found.now.side) (plain_buys (B.Queue.held buys.old)) (plain_sells (S.Queue.held sells.old)))) }
+    ensures cuts { ((s : AnySide) → D.lawful sides.old s) → (D.held sides.new found.now.side ≡ after_cut (rank_of found.now.side) (D.held sides.old found.now.side) change.now.order (found.now.order.lots - change.now.lots)) × (D.held sides.new (other found.now.side) ≡ D.held sides.old (other found.now.side)) }
 {
     let off = found.order.lots.saturating_sub(change.lots);
-    cut_on(found.side, change.order, off, buys, sells);
+    let _ = sides.cut(found.side, change.order, off);
     change_answer(change, found, 0, change.lots, 0)
 }
 
 impl Book<Trading> {
     // Changes price and lots of what rests of an order. It keeps its place, or takes a new turn and meets as an order does.
-    pub fn change<B: Queue<BuyOrder>, S: Queue<SellOrder>, R: PriceRange>(
+    pub fn change<D: Sides, R: PriceRange>(
         &mut self,
         change: OrderChange,
-        buys: &mut B,
-        sells: &mut S,
+        sides: &mut D,
         range: &R,
         trades: &mut [Trade],
     ) -> Result<Answer, Refusal>
-        ensures refused { OnErr result ((self.new ≡ self.old) × (buys.new ≡ buys.old) × (sells.new ≡ sells.old) × (trades.new ≡ trades.old)) }
-        ensures keeps { (B.Queue.lawful buys.old → B.Queue.lawful buys.new) × (S.Queue.lawful sells.old → S.Queue.lawful sells.new) }
-        ensures by_rule { B.Queue.lawful buys.old → S.Queue.lawful sells.old → ByRule (calls.change change (length trades.old)) (trading_book self.old (B.Queue.held buys.old) (S.Queue.held sells.old) (R.PriceRange.answers range.now)) (outcome_of result) trades.old trades.new (trading_book self.new (B.Queue.held buys.new) (S.Queue.held sells.new) (R.PriceRange.answers range.now)) }
-        ensures day { B.Queue.lawful buys.old → S.Queue.lawful sells.old → Keeps (trading_book self.old (B.Queue.held buys.old) (S.Queue.held sells.old) (R.PriceRange.answers range.now)) (event_of (calls.change change (length trades.old)) (outcome_of result) trades.new) (trading_book self.new (B.Queue.held buys.new) (S.Queue.held sells.new) (R.PriceRange.answers range.now)) }
+        ensures refused { OnErr result ((self.new ≡ self.old) × (sides.new ≡ sides.old) × (trades.new ≡ trades.old)) }
+        ensures keeps { (s : AnySide) → D.lawful sides.old s → D.lawful sides.new s }
+        ensures same { D.same_queues sides.old sides.new }
+        ensures by_rule { ((s : AnySide) → D.lawful sides.old s) → ByRule (calls.change change (length trades.old)) (trading_book self.old (D.held sides.old) (R.PriceRange.answers range.now)) (outcome_of result) trades.old trades.new (trading_book self.new (D.held sides.new) (R.PriceRange.answers range.now)) }
+        ensures day { ((s : AnySide) → D.lawful sides.old s) → Keeps (trading_book self.old (D.held sides.old) (R.PriceRange.answers range.now)) (event_of (calls.change change (length trades.old)) (outcome_of result) trades.new) (trading_book self.new (D.held sides.new) (R.PriceRange.answers range.now)) }
     {
         let band = range.band();
         let next = self.next;
-        let found = self.check_change(Setting::Trading(band), &change, buys, sells, trades.len())?;
+        let found = self.check_change(Setting::Trading(band), &change, sides, trades.len())?;
         if keeps_place(&change, &found.order) {
-            return Ok(lower(&change, &found, buys, sells));
+            return Ok(lower(&change, &found, sides));
         }
-        take_on(found.side, change.order, buys, sells);
-        let met = enter_on(
+        let _ = sides.take(found.side, change.order);
+        let met = enter(
             found.side,
             changed(&change, &found.order, next),
             false,
             band,
-            buys,
-            sells,
+            sides,
             trades,
         );
         self.next = next + 1;
@@ -111,29 +104,24 @@ impl Book<Trading> {
 
 impl Book<Halted> {
     // Changes price and lots of what rests of an order, which may not rise. In a halt it meets nothing.
-    pub fn change<B: Queue<BuyOrder>, S: Queue<SellOrder>>(
+    pub fn change<D: Sides>(
         &mut self,
         change: OrderChange,
-        buys: &mut B,
-        sells: &mut S,
+        sides: &mut D,
     ) -> Result<Answer, Refusal>
-        ensures refused { OnErr result ((self.new ≡ self.old) × (buys.new ≡ buys.old) × (sells.new ≡ sells.old)) }
-        ensures keeps { (B.Queue.lawful buys.old → B.Queue.lawful buys.new) × (S.Queue.lawful sells.old → S.Queue.lawful sells.new) }
-        ensures by_rule { B.Queue.lawful buys.old → S.Queue.lawful sells.old → ((range : Answers) → ByRule (calls.change change 0) (halted_book self.old (B.Queue.held buys.old) (S.Queue.held sells.old) range) (outcome_of result) [] [] (halted_book self.new (B.Queue.held buys.new) (S.Queue.held sells.new) range)) }
-        ensures day { B.Queue.lawful buys.old → S.Queue.lawful sells.old → ((range : Answers) → Keeps (halted_book self.old (B.Queue.held buys.old) (S.Queue.held sells.old) range) (event_of (calls.change change 0) (outcome_of result) []) (halted_book self.new (B.Queue.held buys.new) (S.Queue.held sells.new) range)) }
+        ensures refused { OnErr result ((self.new ≡ self.old) × (sides.new ≡ sides.old)) }
+        ensures keeps { (s : AnySide) → D.lawful sides.old s → D.lawful sides.new s }
+        ensures same { D.same_queues sides.old sides.new }
+        ensures by_rule { ((s : AnySide) → D.lawful sides.old s) → ((range : Answers) → ByRule (calls.change change 0) (halted_book self.old (D.held sides.old) range) (outcome_of result) [] [] (halted_book self.new (D.held sides.new) range)) }
+        ensures day { ((s : AnySide) → D.lawful sides.old s) → ((range : Answers) → Keeps (halted_book self.old (D.held sides.old) range) (event_of (calls.change change 0) (outcome_of result) []) (halted_book self.new (D.held sides.new) range)) }
     {
         let next = self.next;
-        let found = self.check_change(Setting::Halted, &change, buys, sells, 0)?;
+        let found = self.check_change(Setting::Halted, &change, sides, 0)?;
         if keeps_place(&change, &found.order) {
-            return Ok(lower(&change, &found, buys, sells));
+            return Ok(lower(&change, &found, sides));
         }
-        take_on(found.side, change.order, buys, sells);
-        put_on(
-            found.side,
-            changed(&change, &found.order, next),
-            buys,
-            sells,
-        );
+        let _ = sides.take(found.side, change.order);
+        let _ = sides.put(found.side, changed(&change, &found.order, next));
         self.next = next + 1;
         Ok(change_answer(&change, &found, 0, change.lots, 0))
     }

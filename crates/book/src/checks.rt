@@ -1,12 +1,17 @@
 // The tests that a call makes before it changes anything.
 ghost use Rattle.std.specs.Prelude.{◌≡◌, ◌+◌, nat_lt};
+ghost use Rattle.terms.specs.declared.side.Side.{Side as AnySide};
+ghost use Rattle.orders.specs.Priority.{rank_of};
+ghost use Rattle.queue.specs.Held.{Sound};
 ghost use Rattle.rules.specs.Checks.{bad_member, bad_price, bad_lots, bad_spread, bad_quote_lots, outside};
 ghost use Rattle.book.specs.Refusing.{refused_if};
 
+use crate::sides::Sides;
 use terms::limits::{LOTS_MAX, MEMBER_MAX, PRICE_MAX, TURN_MAX};
 use terms::message::QuoteEntry;
 use terms::refusal::Refusal;
 use terms::setup::{Instrument, Span};
+use terms::side::Side;
 
 // Refuses for this reason where the test holds.
 pub(crate) fn refuse_if(test: bool, refusal: Refusal) -> Result<(), Refusal>
@@ -66,9 +71,11 @@ pub(crate) fn check_quote_lots(terms: &Instrument, entry: &QuoteEntry) -> Result
 }
 
 // A trade table is no shorter than both capacities together.
-pub(crate) fn check_table(places: usize, buys: usize, sells: usize) -> Result<(), Refusal>
-    ensures { result ≡ refused_if Refusal.ShortTradeTable (nat_lt places (buys + sells)) }
+pub(crate) fn check_table<D: Sides>(sides: &D, places: usize) -> Result<(), Refusal>
+    ensures answers { result ≡ refused_if Refusal.ShortTradeTable (nat_lt places ((D.held sides.now Side.Buy).capacity + (D.held sides.now Side.Sell).capacity)) }
+    ensures sound { (s : AnySide) → D.lawful sides.now s → Sound (rank_of s) (D.held sides.now s) }
 {
+    let (buys, sells) = (sides.capacity(Side::Buy), sides.capacity(Side::Sell));
     let short = (places as u128) < buys as u128 + sells as u128;
     refuse_if(short, Refusal::ShortTradeTable)
 }

@@ -16,4 +16,5 @@ pub mod play;
 mod quote;
 mod resting;
 mod side;
+pub mod sides;
 mod sweep;

@@ -1,16 +1,14 @@
 // Matching: an order against the other side, first order after first order.
-ghost use Rattle.std.specs.Prelude.{◌≡◌, ◌<◌, ◌≤◌, false, map, length};
-ghost use Rattle.orders.specs.Priority.{rank_of};
-ghost use Rattle.queue.specs.Carries.{Carries, map_held};
-ghost use Rattle.rules.specs.Book.{other, pick};
+ghost use Rattle.std.specs.Prelude.{◌≡◌, ◌<◌, ◌≤◌, false, length};
+ghost use Rattle.terms.specs.declared.side.Side.{Side as AnySide};
+ghost use Rattle.rules.specs.Book.{other};
 ghost use Rattle.rules.specs.Meeting.{can_meet, nearest as nearest_of, resting_limit, trade as trade_of, lapses as lapsing};
 ghost use Rattle.rules.specs.Tables.{Fits, Room, meet_at, enter_at};
-ghost use Rattle.book.specs.Matching.{incoming_of, plain_buys, plain_sells};
+ghost use Rattle.book.specs.Matching.{incoming_of};
 
-use orders::Sided;
-use orders::order::{BuyOrder, Order, SellOrder};
+use crate::sides::Sides;
+use orders::order::Order;
 use price_range::band::Band;
-use queue::{Queue, Ranked};
 use terms::side::{Side, TimeInForce};
 use terms::trade::Trade;
 
@@ -86,21 +84,33 @@ fn trade(band: Option<Band>, incoming: &Incoming, resting: &Order, lots: u32) ->
     }
 }
 
+// The other side.
+fn other(side: Side) -> Side
+    ensures { result ≡ other side }
+{
+    match side {
+        Side::Buy => Side::Sell,
+        Side::Sell => Side::Buy,
+    }
+}
+
 // Meets the first order of the other side again and again, while it can, and writes the trades from `place` on.
-pub(crate) fn meet<E: Sided, Q: Queue<E>>(
+pub(crate) fn meet<D: Sides>(
     incoming: &Incoming,
     band: Option<Band>,
-    opposite: &mut Q,
+    sides: &mut D,
     trades: &mut [Trade],
     place: usize,
 ) -> Met
-    requires { Carries E.Sided.plain E.Ranked.rank (rank_of (other incoming.now.side)) }
     ensures places { (place ≤ result.place) × (place < result.place → result.place ≤ length trades.old) }
     ensures left { result.left ≤ incoming.now.lots }
-    ensures keeps { Q.Queue.lawful opposite.old → Q.Queue.lawful opposite.new }
-    ensures capacity { Q.Queue.lawful opposite.old → (Q.Queue.held opposite.new).capacity ≡ (Q.Queue.held opposite.old).capacity }
-    ensures meets { Q.Queue.lawful opposite.old → Fits (map E.Sided.plain (Q.Queue.held opposite.old).elements) place trades.old → record { table = trades.new; place = result.place; left = result.left; rest = map E.Sided.plain (Q.Queue.held opposite.new).elements } ≡ meet_at band incoming.now.side (incoming_of incoming.now) incoming.now.lots (map E.Sided.plain (Q.Queue.held opposite.old).elements) place trades.old }
+    ensures keeps { (s : AnySide) → D.lawful sides.old s → D.lawful sides.new s }
+    ensures same { D.same_queues sides.old sides.new }
+    ensures own { D.held sides.new incoming.now.side ≡ D.held sides.old incoming.now.side }
+    ensures capacity { D.lawful sides.old (other incoming.now.side) → (D.held sides.new (other incoming.now.side)).capacity ≡ (D.held sides.old (other incoming.now.side)).capacity }
+    ensures meets { D.lawful sides.old (other incoming.now.side) → Fits (D.held sides.old (other incoming.now.side)).elements place trades.old → record { table = trades.new; place = result.place; left = result.left; rest = (D.held sides.new (other incoming.now.side)).elements } ≡ meet_at band incoming.now.side (incoming_of incoming.now) incoming.now.lots (D.held sides.old (other incoming.now.side)).elements place trades.old }
 {
+    let opposite = other(incoming.side);
     let mut lots = incoming.lots;
     let mut next = place;
     // A named form, kept: matching is a loop left by `break` with the remainder, and writes its trades by index.
@@ -108,38 +118,35 @@ pub(crate) fn meet<E: Sided, Q: Queue<E>>(
         if lots == 0 || next >= trades.len() {
             break lots;
         }
-        let Some(first) = opposite.first() else {
+        let Some(resting) = sides.first(opposite) else {
             break lots;
         };
-        let resting = first.order();
         if !can_meet(band, incoming.side, incoming.limit, resting.price) {
             break lots;
         }
         let dealt = lots.min(resting.lots);
         trades[next] = trade(band, incoming, &resting, dealt);
         next += 1;
-        let _ = opposite.cut(resting.number, dealt);
+        let _ = sides.cut(opposite, resting.number, dealt);
         lots -= dealt;
     };
     Met { left, place: next }
 }
 
 // Enters an order with all its lots: it meets the other side, and what is left joins its own, unless it lapses.
-pub(crate) fn enter<O: Sided, P: Sided, Own: Queue<O>, Opposite: Queue<P>>(
+pub(crate) fn enter<D: Sides>(
     side: Side,
     order: Order,
     lapse: bool,
     band: Option<Band>,
-    own: &mut Own,
-    opposite: &mut Opposite,
+    sides: &mut D,
     trades: &mut [Trade],
 ) -> Met
-    requires own_side { Carries O.Sided.plain O.Ranked.rank (rank_of side) }
-    requires other_side { Carries P.Sided.plain P.Ranked.rank (rank_of (other side)) }
     ensures places { result.place ≤ length trades.old }
     ensures left { result.left ≤ order.lots }
-    ensures keeps { (Own.Queue.lawful own.old → Own.Queue.lawful own.new) × (Opposite.Queue.lawful opposite.old → Opposite.Queue.lawful opposite.new) }
-    ensures enters { Own.Queue.lawful own.old → Opposite.Queue.lawful opposite.old → Fits (map P.Sided.plain (Opposite.Queue.held opposite.old).elements) 0 trades.old → (lapse ≡ false → Room side (map_held O.Sided.plain (Own.Queue.held own.old)) order) → record { table = trades.new; place = result.place; left = result.left; own = map_held O.Sided.plain (Own.Queue.held own.new); opposite = map_held P.Sided.plain (Opposite.Queue.held opposite.new) } ≡ enter_at band lapse side order (map_held O.Sided.plain (Own.Queue.held own.old)) (map_held P.Sided.plain (Opposite.Queue.held opposite.old)) trades.old }
+    ensures keeps { (s : AnySide) → D.lawful sides.old s → D.lawful sides.new s }
+    ensures same { D.same_queues sides.old sides.new }
+    ensures enters { ((s : AnySide) → D.lawful sides.old s) → Fits (D.held sides.old (other side)).elements 0 trades.old → (lapse ≡ false → Room side (D.held sides.old side) order) → record { table = trades.new; place = result.place; left = result.left; own = D.held sides.new side; opposite = D.held sides.new (other side) } ≡ enter_at band lapse side order (D.held sides.old side) (D.held sides.old (other side)) trades.old }
 {
     let incoming = Incoming {
         side,
@@ -148,35 +155,15 @@ pub(crate) fn enter<O: Sided, P: Sided, Own: Queue<O>, Opposite: Queue<P>>(
         lots: order.lots,
         rested: None,
     };
-    let met = meet(&incoming, band, opposite, trades, 0);
+    let met = meet(&incoming, band, sides, trades, 0);
     if met.left > 0 && !lapse {
-        let _ = own.put(O::from_order(Order {
+        let rest = Order {
             lots: met.left,
             ..order
-        }));
+        };
+        let _ = sides.put(side, rest);
     }
     met
-}
-
-// The same on the two queues of a book.
-pub(crate) fn enter_on<B: Queue<BuyOrder>, S: Queue<SellOrder>>(
-    side: Side,
-    order: Order,
-    lapse: bool,
-    band: Option<Band>,
-    buys: &mut B,
-    sells: &mut S,
-    trades: &mut [Trade],
-) -> Met
-    ensures places { result.place ≤ length trades.old }
-    ensures left { result.left ≤ order.lots }
-    ensures keeps { (B.Queue.lawful buys.old → B.Queue.lawful buys.new) × (S.Queue.lawful sells.old → S.Queue.lawful sells.new) }
-    ensures enters { B.Queue.lawful buys.old → S.Queue.lawful sells.old → Fits (pick (other side) (plain_buys (B.Queue.held buys.old)) (plain_sells (S.Queue.held sells.old))).elements 0 trades.old → (lapse ≡ false → Room side (pick side (plain_buys (B.Queue.held buys.old)) (plain_sells (S.Queue.held sells.old))) order) → record { table = trades.new; place = result.place; left = result.left; own = pick side (plain_buys (B.Queue.held buys.new)) (plain_sells (S.Queue.held sells.new)); opposite = pick (other side) (plain_buys (B.Queue.held buys.new)) (plain_sells (S.Queue.held sells.new)) } ≡ enter_at band lapse side order (pick side (plain_buys (B.Queue.held buys.old)) (plain_sells (S.Queue.held sells.old))) (pick (other side) (plain_buys (B.Queue.held buys.old)) (plain_sells (S.Queue.held sells.old))) trades.old }
-{
-    match side {
-        Side::Buy => enter(Side::Buy, order, lapse, band, buys, sells, trades),
-        Side::Sell => enter(Side::Sell, order, lapse, band, sells, buys, trades),
-    }
 }
 
 // Whether the remainder of an order is cancelled: it is immediate, or a buy above the high, or a sell below the low.

@@ -1,6 +1,7 @@
 // The market maker's quote, and its renewal.
 ghost use Rattle.std.specs.Prelude.{◌≡◌, ◌+◌, ◌≤◌, List, ◌∷◌, length, IfErr, Some, None, OnErr, OnOk};
-ghost use Rattle.orders.specs.Priority.{buy_rank, sell_rank};
+ghost use Rattle.terms.specs.declared.side.Side.{Side as AnySide};
+ghost use Rattle.orders.specs.Priority.{rank_of};
 ghost use Rattle.queue.specs.Held.{Sound, answer};
 ghost use Rattle.price_range.specs.Bands.{Update};
 ghost use Rattle.rules.specs.ByRule.{ByRule, QuoteReady, QuotePlaced, event_of};
@@ -9,18 +10,17 @@ ghost use Rattle.rules.specs.Checks.{first_of, bid_of, ask_of, leg_checks, quote
 ghost use Rattle.rules.specs.Rules.{update_of};
 ghost use Rattle.rules.specs.Keeps.{Keeps};
 ghost use Rattle.book.specs.Books.{book_in, waiting_book, trading_book, outcome_of, quote_outcome, quote_book};
-ghost use Rattle.book.specs.Matching.{plain_buys, plain_sells};
 
 use crate::checks::{
     check_lots, check_price, check_quote_lots, check_spread, check_table, check_turns, refuse_if,
 };
 use crate::lots::traded_lots;
 use crate::phase::{Book, DayPhase, Trading, Waiting};
-use crate::side::{holds_leg, is_full_without, is_taken, lots_under, take_leg};
+use crate::side::{holds_leg, is_full_without, lots_under, take_leg};
+use crate::sides::Sides;
 use crate::sweep::sweep;
-use orders::order::{BuyOrder, Order, SellOrder};
+use orders::order::Order;
 use price_range::PriceRange;
-use queue::Queue;
 use terms::message::{QuoteEntry, Quoted};
 use terms::refusal::Refusal;
 use terms::side::Side;
@@ -41,23 +41,18 @@ fn ask_of(quote: Option<Quoted>) -> Option<u32>
 }
 
 // Two turns are left, each side has a place for its leg, and the turns are free; the old legs count as gone.
-fn check_legs<B: Queue<BuyOrder>, S: Queue<SellOrder>>(
-    next: u32,
-    old: Option<Quoted>,
-    buys: &B,
-    sells: &S,
-) -> Result<(), Refusal>
-    ensures answers { B.Queue.lawful buys.now → S.Queue.lawful sells.now → result ≡ answer (first_of (leg_checks next old (plain_buys (B.Queue.held buys.now)) (plain_sells (S.Queue.held sells.now)))) }
+fn check_legs<D: Sides>(next: u32, old: Option<Quoted>, sides: &D) -> Result<(), Refusal>
+    ensures answers { ((s : AnySide) → D.lawful sides.now s) → result ≡ answer (first_of (leg_checks next old (D.held sides.now Side.Buy) (D.held sides.now Side.Sell))) }
     ensures turns { OnOk result (next + 2 ≤ 1000001) }
 {
     check_turns(next, 2)?;
     let (bid, ask) = (bid_of(old), ask_of(old));
     refuse_if(
-        is_full_without(Side::Buy, buys, bid) || is_full_without(Side::Sell, sells, ask),
+        is_full_without(sides, Side::Buy, bid) || is_full_without(sides, Side::Sell, ask),
         Refusal::QueueFull,
     )?;
     refuse_if(
-        is_taken(Side::Buy, buys, next, bid) || is_taken(Side::Sell, sells, next + 1, ask),
+        sides.is_taken(Side::Buy, next, bid) || sides.is_taken(Side::Sell, next + 1, ask),
         Refusal::AlreadyHeld,
     )
 }
@@ -77,15 +72,14 @@ fn leg(number: u32, price: u32, lots: u32) -> Order
 
 impl<P: DayPhase> Book<P> {
     // The tests of a quote, in their order.
-    fn check_quote<B: Queue<BuyOrder>, S: Queue<SellOrder>>(
+    fn check_quote<D: Sides>(
         &self,
         entry: &QuoteEntry,
-        buys: &B,
-        sells: &S,
+        sides: &D,
         places: usize,
     ) -> Result<(), Refusal>
-        ensures answers { B.Queue.lawful buys.now → S.Queue.lawful sells.now → result ≡ answer (first_of (quote_checks entry.now places (book_in P.phase P.last self.now (B.Queue.held buys.now) (S.Queue.held sells.now) (λ us. None)))) }
-        ensures sound { OnOk result ((B.Queue.lawful buys.now → Sound buy_rank (B.Queue.held buys.now)) × (S.Queue.lawful sells.now → Sound sell_rank (S.Queue.held sells.now))) }
+        ensures answers { ((s : AnySide) → D.lawful sides.now s) → result ≡ answer (first_of (quote_checks entry.now places (book_in P.phase P.last self.now (D.held sides.now) (λ us. None)))) }
+        ensures sound { OnOk result ((s : AnySide) → D.lawful sides.now s → Sound (rank_of s) (D.held sides.now s)) }
         ensures turns { OnOk result (self.now.next + 2 ≤ 1000001) }
     {
         check_price(&self.terms, entry.bid_price)?;
@@ -94,35 +88,35 @@ impl<P: DayPhase> Book<P> {
         check_lots(entry.ask_lots)?;
         check_spread(&self.terms, entry)?;
         check_quote_lots(&self.terms, entry)?;
-        check_table(places, buys.capacity(), sells.capacity())?;
-        check_legs(self.next, self.phase.last(), buys, sells)
+        check_table(sides, places)?;
+        check_legs(self.next, self.phase.last(), sides)
     }
 
     // Places a quote: the old legs go, the range is told, both new legs rest, and what can meet does. Says the new quote.
-    fn place_quote<B: Queue<BuyOrder>, S: Queue<SellOrder>, R: PriceRange>(
+    fn place_quote<D: Sides, R: PriceRange>(
         &mut self,
         entry: QuoteEntry,
-        buys: &mut B,
-        sells: &mut S,
+        sides: &mut D,
         range: &mut R,
         trades: &mut [Trade],
     ) -> (Quoted, Answer)
         requires { self.old.next + 2 ≤ 1000001 }
-        ensures keeps { (B.Queue.lawful buys.old → B.Queue.lawful buys.new) × (S.Queue.lawful sells.old → S.Queue.lawful sells.new) }
+        ensures keeps { (s : AnySide) → D.lawful sides.old s → D.lawful sides.new s }
+        ensures same { D.same_queues sides.old sides.new }
         ensures told { (us : List Update) → R.PriceRange.answers range.new us ≡ R.PriceRange.answers range.old (update_of entry ∷ us) }
         ensures quoted { result.0 ≡ record { entry = entry; bid = self.old.next; ask = self.old.next + 1 } }
         ensures next { self.new ≡ record self.old { next = self.old.next + 2 } }
-        ensures places { B.Queue.lawful buys.old → S.Queue.lawful sells.old → QuoteReady (book_in P.phase P.last self.old (B.Queue.held buys.old) (S.Queue.held sells.old) (R.PriceRange.answers range.old)) trades.old → QuotePlaced entry (book_in P.phase P.last self.old (B.Queue.held buys.old) (S.Queue.held sells.old) (R.PriceRange.answers range.old)) result.1 trades.old trades.new (plain_buys (B.Queue.held buys.new)) (plain_sells (S.Queue.held sells.new)) }
+        ensures places { ((s : AnySide) → D.lawful sides.old s) → QuoteReady (book_in P.phase P.last self.old (D.held sides.old) (R.PriceRange.answers range.old)) trades.old → QuotePlaced entry (book_in P.phase P.last self.old (D.held sides.old) (R.PriceRange.answers range.old)) result.1 trades.old trades.new (D.held sides.new Side.Buy) (D.held sides.new Side.Sell) }
     {
         let (bid, ask) = (self.next, self.next + 1);
         let old = self.phase.last();
-        let cancelled = take_leg(Side::Buy, buys, bid_of(old))
-            + take_leg(Side::Sell, sells, ask_of(old));
+        let cancelled = take_leg(sides, Side::Buy, bid_of(old))
+            + take_leg(sides, Side::Sell, ask_of(old));
         range.tell(entry.bid_price, entry.ask_price);
-        let _ = buys.put(BuyOrder(leg(bid, entry.bid_price, entry.bid_lots)));
-        let _ = sells.put(SellOrder(leg(ask, entry.ask_price, entry.ask_lots)));
-        let count = sweep(range.band(), buys, sells, trades);
-        let resting = lots_under(Side::Buy, buys, bid) + lots_under(Side::Sell, sells, ask);
+        let _ = sides.put(Side::Buy, leg(bid, entry.bid_price, entry.bid_lots));
+        let _ = sides.put(Side::Sell, leg(ask, entry.ask_price, entry.ask_lots));
+        let count = sweep(range.band(), sides, trades);
+        let resting = lots_under(sides, Side::Buy, bid) + lots_under(sides, Side::Sell, ask);
         self.next = bid + 2;
         let answer = Answer {
             number: bid,
@@ -137,23 +131,23 @@ impl<P: DayPhase> Book<P> {
 
 impl Book<Waiting> {
     // Enters a quote: accepted, it leads to trading; refused, it hands the waiting book back.
-    pub fn quote<B: Queue<BuyOrder>, S: Queue<SellOrder>, R: PriceRange>(
+    pub fn quote<D: Sides, R: PriceRange>(
         mut self,
         entry: QuoteEntry,
-        buys: &mut B,
-        sells: &mut S,
+        sides: &mut D,
         range: &mut R,
         trades: &mut [Trade],
     ) -> Result<(Book<Trading>, Answer), (Book<Waiting>, Refusal)>
-        ensures refused { IfErr result (λ e. (e.0 ≡ self) × (buys.new ≡ buys.old) × (sells.new ≡ sells.old) × (range.new ≡ range.old) × (trades.new ≡ trades.old)) }
-        ensures keeps { (B.Queue.lawful buys.old → B.Queue.lawful buys.new) × (S.Queue.lawful sells.old → S.Queue.lawful sells.new) }
-        ensures by_rule { B.Queue.lawful buys.old → S.Queue.lawful sells.old → ByRule (calls.quote entry (length trades.old)) (waiting_book self (B.Queue.held buys.old) (S.Queue.held sells.old) (R.PriceRange.answers range.old)) (quote_outcome result) trades.old trades.new (quote_book result (B.Queue.held buys.new) (S.Queue.held sells.new) (R.PriceRange.answers range.new)) }
-        ensures day { B.Queue.lawful buys.old → S.Queue.lawful sells.old → Keeps (waiting_book self (B.Queue.held buys.old) (S.Queue.held sells.old) (R.PriceRange.answers range.old)) (event_of (calls.quote entry (length trades.old)) (quote_outcome result) trades.new) (quote_book result (B.Queue.held buys.new) (S.Queue.held sells.new) (R.PriceRange.answers range.new)) }
+        ensures refused { IfErr result (λ e. (e.0 ≡ self) × (sides.new ≡ sides.old) × (range.new ≡ range.old) × (trades.new ≡ trades.old)) }
+        ensures keeps { (s : AnySide) → D.lawful sides.old s → D.lawful sides.new s }
+        ensures same { D.same_queues sides.old sides.new }
+        ensures by_rule { ((s : AnySide) → D.lawful sides.old s) → ByRule (calls.quote entry (length trades.old)) (waiting_book self (D.held sides.old) (R.PriceRange.answers range.old)) (quote_outcome result) trades.old trades.new (quote_book result (D.held sides.new) (R.PriceRange.answers range.new)) }
+        ensures day { ((s : AnySide) → D.lawful sides.old s) → Keeps (waiting_book self (D.held sides.old) (R.PriceRange.answers range.old)) (event_of (calls.quote entry (length trades.old)) (quote_outcome result) trades.new) (quote_book result (D.held sides.new) (R.PriceRange.answers range.new)) }
     {
-        if let Err(refusal) = self.check_quote(&entry, buys, sells, trades.len()) {
+        if let Err(refusal) = self.check_quote(&entry, sides, trades.len()) {
             return Err((self, refusal));
         }
-        let (quote, answer) = self.place_quote(entry, buys, sells, range, trades);
+        let (quote, answer) = self.place_quote(entry, sides, range, trades);
         let Book { terms, next, .. } = self;
         let trading = Book {
             terms,
@@ -166,61 +160,56 @@ impl Book<Waiting> {
 
 impl Book<Trading> {
     // The tests of a renewal, in their order.
-    fn check_renewal<B: Queue<BuyOrder>, S: Queue<SellOrder>>(
-        &self,
-        buys: &B,
-        sells: &S,
-        places: usize,
-    ) -> Result<(), Refusal>
-        ensures answers { B.Queue.lawful buys.now → S.Queue.lawful sells.now → result ≡ answer (first_of (renew_checks places (trading_book self.now (B.Queue.held buys.now) (S.Queue.held sells.now) (λ us. None)))) }
-        ensures sound { OnOk result ((B.Queue.lawful buys.now → Sound buy_rank (B.Queue.held buys.now)) × (S.Queue.lawful sells.now → Sound sell_rank (S.Queue.held sells.now))) }
+    fn check_renewal<D: Sides>(&self, sides: &D, places: usize) -> Result<(), Refusal>
+        ensures answers { ((s : AnySide) → D.lawful sides.now s) → result ≡ answer (first_of (renew_checks places (trading_book self.now (D.held sides.now) (λ us. None)))) }
+        ensures sound { OnOk result ((s : AnySide) → D.lawful sides.now s → Sound (rank_of s) (D.held sides.now s)) }
         ensures turns { OnOk result (self.now.next + 2 ≤ 1000001) }
     {
-        check_table(places, buys.capacity(), sells.capacity())?;
+        check_table(sides, places)?;
         let last = self.phase.last();
         refuse_if(
-            holds_leg(Side::Buy, buys, bid_of(last)) && holds_leg(Side::Sell, sells, ask_of(last)),
+            holds_leg(sides, Side::Buy, bid_of(last)) && holds_leg(sides, Side::Sell, ask_of(last)),
             Refusal::QuoteRests,
         )?;
-        check_legs(self.next, last, buys, sells)
+        check_legs(self.next, last, sides)
     }
 
     // Enters a quote in the place of the last one.
-    pub fn quote<B: Queue<BuyOrder>, S: Queue<SellOrder>, R: PriceRange>(
+    pub fn quote<D: Sides, R: PriceRange>(
         &mut self,
         entry: QuoteEntry,
-        buys: &mut B,
-        sells: &mut S,
+        sides: &mut D,
         range: &mut R,
         trades: &mut [Trade],
     ) -> Result<Answer, Refusal>
-        ensures refused { OnErr result ((self.new ≡ self.old) × (buys.new ≡ buys.old) × (sells.new ≡ sells.old) × (range.new ≡ range.old) × (trades.new ≡ trades.old)) }
-        ensures keeps { (B.Queue.lawful buys.old → B.Queue.lawful buys.new) × (S.Queue.lawful sells.old → S.Queue.lawful sells.new) }
-        ensures by_rule { B.Queue.lawful buys.old → S.Queue.lawful sells.old → ByRule (calls.quote entry (length trades.old)) (trading_book self.old (B.Queue.held buys.old) (S.Queue.held sells.old) (R.PriceRange.answers range.old)) (outcome_of result) trades.old trades.new (trading_book self.new (B.Queue.held buys.new) (S.Queue.held sells.new) (R.PriceRange.answers range.new)) }
-        ensures day { B.Queue.lawful buys.old → S.Queue.lawful sells.old → Keeps (trading_book self.old (B.Queue.held buys.old) (S.Queue.held sells.old) (R.PriceRange.answers range.old)) (event_of (calls.quote entry (length trades.old)) (outcome_of result) trades.new) (trading_book self.new (B.Queue.held buys.new) (S.Queue.held sells.new) (R.PriceRange.answers range.new)) }
+        ensures refused { OnErr result ((self.new ≡ self.old) × (sides.new ≡ sides.old) × (range.new ≡ range.old) × (trades.new ≡ trades.old)) }
+        ensures keeps { (s : AnySide) → D.lawful sides.old s → D.lawful sides.new s }
+        ensures same { D.same_queues sides.old sides.new }
+        ensures by_rule { ((s : AnySide) → D.lawful sides.old s) → ByRule (calls.quote entry (length trades.old)) (trading_book self.old (D.held sides.old) (R.PriceRange.answers range.old)) (outcome_of result) trades.old trades.new (trading_book self.new (D.held sides.new) (R.PriceRange.answers range.new)) }
+        ensures day { ((s : AnySide) → D.lawful sides.old s) → Keeps (trading_book self.old (D.held sides.old) (R.PriceRange.answers range.old)) (event_of (calls.quote entry (length trades.old)) (outcome_of result) trades.new) (trading_book self.new (D.held sides.new) (R.PriceRange.answers range.new)) }
     {
-        self.check_quote(&entry, buys, sells, trades.len())?;
-        let (quote, answer) = self.place_quote(entry, buys, sells, range, trades);
+        self.check_quote(&entry, sides, trades.len())?;
+        let (quote, answer) = self.place_quote(entry, sides, range, trades);
         self.phase.quote = quote;
         Ok(answer)
     }
 
     // Enters the last quote again.
-    pub fn renew<B: Queue<BuyOrder>, S: Queue<SellOrder>, R: PriceRange>(
+    pub fn renew<D: Sides, R: PriceRange>(
         &mut self,
-        buys: &mut B,
-        sells: &mut S,
+        sides: &mut D,
         range: &mut R,
         trades: &mut [Trade],
     ) -> Result<Answer, Refusal>
-        ensures refused { OnErr result ((self.new ≡ self.old) × (buys.new ≡ buys.old) × (sells.new ≡ sells.old) × (range.new ≡ range.old) × (trades.new ≡ trades.old)) }
-        ensures keeps { (B.Queue.lawful buys.old → B.Queue.lawful buys.new) × (S.Queue.lawful sells.old → S.Queue.lawful sells.new) }
-        ensures by_rule { B.Queue.lawful buys.old → S.Queue.lawful sells.old → ByRule (calls.renew (length trades.old)) (trading_book self.old (B.Queue.held buys.old) (S.Queue.held sells.old) (R.PriceRange.answers range.old)) (outcome_of result) trades.old trades.new (trading_book self.new (B.Queue.held buys.new) (S.Queue.held sells.new) (R.PriceRange.answers range.new)) }
-        ensures day { B.Queue.lawful buys.old → S.Queue.lawful sells.old → Keeps (trading_book self.old (B.Queue.held buys.old) (S.Queue.held sells.old) (R.PriceRange.answers range.old)) (event_of (calls.renew (length trades.old)) (outcome_of result) trades.new) (trading_book self.new (B.Queue.held buys.new) (S.Queue.held sells.new) (R.PriceRange.answers range.new)) }
+        ensures refused { OnErr result ((self.new ≡ self.old) × (sides.new ≡ sides.old) × (range.new ≡ range.old) × (trades.new ≡ trades.old)) }
+        ensures keeps { (s : AnySide) → D.lawful sides.old s → D.lawful sides.new s }
+        ensures same { D.same_queues sides.old sides.new }
+        ensures by_rule { ((s : AnySide) → D.lawful sides.old s) → ByRule (calls.renew (length trades.old)) (trading_book self.old (D.held sides.old) (R.PriceRange.answers range.old)) (outcome_of result) trades.old trades.new (trading_book self.new (D.held sides.new) (R.PriceRange.answers range.new)) }
+        ensures day { ((s : AnySide) → D.lawful sides.old s) → Keeps (trading_book self.old (D.held sides.old) (R.PriceRange.answers range.old)) (event_of (calls.renew (length trades.old)) (outcome_of result) trades.new) (trading_book self.new (D.held sides.new) (R.PriceRange.answers range.new)) }
     {
-        self.check_renewal(buys, sells, trades.len())?;
+        self.check_renewal(sides, trades.len())?;
         let entry = self.phase.quote.entry;
-        let (quote, answer) = self.place_quote(entry, buys, sells, range, trades);
+        let (quote, answer) = self.place_quote(entry, sides, range, trades);
         self.phase.quote = quote;
         Ok(answer)
     }

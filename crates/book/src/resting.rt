@@ -5,7 +5,7 @@ ghost use Rattle.rules.specs.ByRule.{ByRule, event_of};
 ghost use Rattle.rules.specs.Calls as calls;
 ghost use Rattle.rules.specs.Keeps.{Keeps};
 ghost use Rattle.book.specs.Books.{book_in};
-ghost use Rattle.book.specs.Matching.{plain_buys, plain_sells};
+ghost use Rattle.book.specs.Sided.{plain_buys, plain_sells, side_held};
 
 use crate::lots::resting_lots;
 use crate::phase::{Book, DayPhase};
@@ -26,8 +26,8 @@ impl<P: DayPhase> Book<P> {
         buys: &B,
         sells: &S,
     ) -> (u128, u128)
-        ensures by_rule { B.Queue.lawful buys.now → S.Queue.lawful sells.now → ((range : Answers) → ByRule calls.resting (book_in P.phase P.last self.now (B.Queue.held buys.now) (S.Queue.held sells.now) range) (calls.lots result.0 result.1) [] [] (book_in P.phase P.last self.now (B.Queue.held buys.now) (S.Queue.held sells.now) range)) }
-        ensures day { B.Queue.lawful buys.now → S.Queue.lawful sells.now → ((range : Answers) → Keeps (book_in P.phase P.last self.now (B.Queue.held buys.now) (S.Queue.held sells.now) range) (event_of calls.resting (calls.lots result.0 result.1) []) (book_in P.phase P.last self.now (B.Queue.held buys.now) (S.Queue.held sells.now) range)) }
+        ensures by_rule { B.Queue.lawful buys.now → S.Queue.lawful sells.now → ((range : Answers) → ByRule calls.resting (book_in P.phase P.last self.now (side_held (B.Queue.held buys.now) (S.Queue.held sells.now)) range) (calls.lots result.0 result.1) [] [] (book_in P.phase P.last self.now (side_held (B.Queue.held buys.now) (S.Queue.held sells.now)) range)) }
+        ensures day { B.Queue.lawful buys.now → S.Queue.lawful sells.now → ((range : Answers) → Keeps (book_in P.phase P.last self.now (side_held (B.Queue.held buys.now) (S.Queue.held sells.now)) range) (event_of calls.resting (calls.lots result.0 result.1) []) (book_in P.phase P.last self.now (side_held (B.Queue.held buys.now) (S.Queue.held sells.now)) range)) }
     {
         both_sides(buys, sells)
     }

@@ -1,13 +1,13 @@
 // Questions to one side's queue, as the rules put them.
 ghost use Rattle.std.specs.Prelude.{◌≡◌, ◌<◌, true, ◌&&◌, map, ◌==◌};
 ghost use Rattle.terms.specs.Setups.{within};
-ghost use Rattle.orders.specs.Priority.{rank_of};
-ghost use Rattle.queue.specs.Carries.{Carries, map_held};
-ghost use Rattle.queue.specs.Held.{any, takes};
-ghost use Rattle.rules.specs.Book.{holding};
+ghost use Rattle.terms.specs.declared.side.Side.{Side as AnySide};
+ghost use Rattle.queue.specs.Carries.{map_held};
+ghost use Rattle.rules.specs.Book.{holding, other};
 ghost use Rattle.rules.specs.Opening.{fit};
 ghost use Rattle.rules.specs.Checks.{full, full_without, holds, leg_lots, lots_under, without};
 
+use crate::sides::Sides;
 use orders::Sided;
 use queue::Queue;
 use terms::limits::CAPACITY_MAX;
@@ -29,43 +29,28 @@ pub(crate) fn is_fit<E: Sided, Q: Queue<E>>(q: &Q) -> bool
 }
 
 // Whether there is no place left.
-pub(crate) fn is_full<E: Sided, Q: Queue<E>>(q: &Q) -> bool
-    ensures { result ≡ full (Q.Queue.held q.now).capacity (map E.Sided.plain (Q.Queue.held q.now).elements) }
+pub(crate) fn is_full<D: Sides>(sides: &D, side: Side) -> bool
+    ensures { result ≡ full (D.held sides.now side).capacity (D.held sides.now side).elements }
 {
-    q.count() >= q.capacity()
-}
-
-// Whether an order other than the one numbered `except` has this turn as its number or its key.
-pub(crate) fn is_taken<E: Sided, Q: Queue<E>>(
-    side: Side,
-    q: &Q,
-    turn: u32,
-    except: Option<u32>,
-) -> bool
-    requires { Carries E.Sided.plain E.Ranked.rank (rank_of side) }
-    ensures { result ≡ any (takes (rank_of side) turn except) (map E.Sided.plain (Q.Queue.held q.now).elements) }
-{
-    q.is_taken(turn, except)
+    sides.count(side) >= sides.capacity(side)
 }
 
 // Whether the order numbered `leg` rests.
-pub(crate) fn holds_leg<E: Sided, Q: Queue<E>>(side: Side, q: &Q, leg: Option<u32>) -> bool
-    requires { Carries E.Sided.plain E.Ranked.rank (rank_of side) }
-    ensures { Q.Queue.lawful q.now → result ≡ holds leg (map E.Sided.plain (Q.Queue.held q.now).elements) }
+pub(crate) fn holds_leg<D: Sides>(sides: &D, side: Side, leg: Option<u32>) -> bool
+    ensures { D.lawful sides.now side → result ≡ holds leg (D.held sides.now side).elements }
 {
     match leg {
-        Some(number) => q.find(number).is_some(),
+        Some(number) => sides.find(side, number).is_some(),
         None => false,
     }
 }
 
 // Whether there is no place left even where the order numbered `leg` counts as gone.
-pub(crate) fn is_full_without<E: Sided, Q: Queue<E>>(side: Side, q: &Q, leg: Option<u32>) -> bool
-    requires { Carries E.Sided.plain E.Ranked.rank (rank_of side) }
-    ensures { Q.Queue.lawful q.now → result ≡ full_without leg (map_held E.Sided.plain (Q.Queue.held q.now)) }
+pub(crate) fn is_full_without<D: Sides>(sides: &D, side: Side, leg: Option<u32>) -> bool
+    ensures { D.lawful sides.now side → result ≡ full_without leg (D.held sides.now side) }
 {
-    let (count, capacity) = (q.count(), q.capacity());
-    if holds_leg(side, q, leg) {
+    let (count, capacity) = (sides.count(side), sides.capacity(side));
+    if holds_leg(sides, side, leg) {
         count > capacity
     } else {
         count >= capacity
@@ -73,30 +58,28 @@ pub(crate) fn is_full_without<E: Sided, Q: Queue<E>>(side: Side, q: &Q, leg: Opt
 }
 
 // The lots of the order with this number, or 0.
-pub(crate) fn lots_under<E: Sided, Q: Queue<E>>(side: Side, q: &Q, number: u32) -> u128
-    requires { Carries E.Sided.plain E.Ranked.rank (rank_of side) }
+pub(crate) fn lots_under<D: Sides>(sides: &D, side: Side, number: u32) -> u128
     ensures small { result < 4294967296 }
-    ensures lots { Q.Queue.lawful q.now → result ≡ lots_under number (map E.Sided.plain (Q.Queue.held q.now).elements) }
+    ensures lots { D.lawful sides.now side → result ≡ lots_under number (D.held sides.now side).elements }
 {
-    match q.find(number) {
-        Some(e) => u128::from(e.lots()),
-        None => 0,
-    }
+    sides
+        .find(side, number)
+        .map_or(0, |order| u128::from(order.lots))
 }
 
 // Takes out the order numbered `leg`, if there is one, and says how many lots it had.
-pub(crate) fn take_leg<E: Sided, Q: Queue<E>>(side: Side, q: &mut Q, leg: Option<u32>) -> u128
-    requires { Carries E.Sided.plain E.Ranked.rank (rank_of side) }
+pub(crate) fn take_leg<D: Sides>(sides: &mut D, side: Side, leg: Option<u32>) -> u128
     ensures small { result < 4294967296 }
-    ensures keeps { Q.Queue.lawful q.old → Q.Queue.lawful q.new }
-    ensures lots { Q.Queue.lawful q.old → result ≡ leg_lots leg (map E.Sided.plain (Q.Queue.held q.old).elements) }
-    ensures leaves { Q.Queue.lawful q.old → map_held E.Sided.plain (Q.Queue.held q.new) ≡ holding (map_held E.Sided.plain (Q.Queue.held q.old)) (without leg (map E.Sided.plain (Q.Queue.held q.old).elements)) }
+    ensures keeps { (s : AnySide) → D.lawful sides.old s → D.lawful sides.new s }
+    ensures same { D.same_queues sides.old sides.new }
+    ensures lots { D.lawful sides.old side → result ≡ leg_lots leg (D.held sides.old side).elements }
+    ensures leaves { D.lawful sides.old side → D.held sides.new side ≡ holding (D.held sides.old side) (without leg (D.held sides.old side).elements) }
+    ensures stays { D.held sides.new (other side) ≡ D.held sides.old (other side) }
 {
     let Some(number) = leg else {
         return 0;
     };
-    match q.take(number) {
-        Some(e) => u128::from(e.lots()),
-        None => 0,
-    }
+    sides
+        .take(side, number)
+        .map_or(0, |order| u128::from(order.lots))
 }

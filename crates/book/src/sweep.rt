@@ -1,29 +1,26 @@
 // The sweep after a quote: while the first buy and the first sell can meet, they do.
-ghost use Rattle.std.specs.Prelude.{◌≡◌, ◌≤◌, map, length};
+ghost use Rattle.std.specs.Prelude.{◌≡◌, ◌≤◌, length};
+ghost use Rattle.terms.specs.declared.side.Side.{Side as AnySide};
 ghost use Rattle.rules.specs.Tables.{FitsBoth, sweep_at};
 
 use crate::matching::{Incoming, meet};
-use orders::order::{BuyOrder, SellOrder};
+use crate::sides::Sides;
 use price_range::band::Band;
-use queue::Queue;
 use terms::side::Side;
 use terms::trade::Trade;
 
 // The first buy meets the sells, and where nothing of it is left the next one does. Says how many trades were written.
-pub(crate) fn sweep<B: Queue<BuyOrder>, S: Queue<SellOrder>>(
-    band: Option<Band>,
-    buys: &mut B,
-    sells: &mut S,
-    trades: &mut [Trade],
-) -> usize
+pub(crate) fn sweep<D: Sides>(band: Option<Band>, sides: &mut D, trades: &mut [Trade]) -> usize
     ensures places { result ≤ length trades.old }
-    ensures keeps { (B.Queue.lawful buys.old → B.Queue.lawful buys.new) × (S.Queue.lawful sells.old → S.Queue.lawful sells.new) }
-    ensures capacity { (B.Queue.lawful buys.old → (B.Queue.held buys.new).capacity ≡ (B.Queue.held buys.old).capacity) × (S.Queue.lawful sells.old → (S.Queue.held sells.new).capacity ≡ (S.Queue.held sells.old).capacity) }
-    ensures sweeps { B.Queue.lawful buys.old → S.Queue.lawful sells.old → FitsBoth (map (λ o. o.0) (B.Queue.held buys.old).elements) (map (λ o. o.0) (S.Queue.held sells.old).elements) 0 trades.old → record { table = trades.new; place = result; buys = map (λ o. o.0) (B.Queue.held buys.new).elements; sells = map (λ o. o.0) (S.Queue.held sells.new).elements } ≡ sweep_at band (map (λ o. o.0) (B.Queue.held buys.old).elements) (map (λ o. o.0) (S.Queue.held sells.old).elements) 0 trades.old }
+    ensures keeps { (s : AnySide) → D.lawful sides.old s → D.lawful sides.new s }
+    ensures same { D.same_queues sides.old sides.new }
+    ensures capacity { ((s : AnySide) → D.lawful sides.old s) → ((D.held sides.new Side.Buy).capacity ≡ (D.held sides.old Side.Buy).capacity) × ((D.held sides.new Side.Sell).capacity ≡ (D.held sides.old Side.Sell).capacity) }
+    ensures sweeps { ((s : AnySide) → D.lawful sides.old s) → FitsBoth (D.held sides.old Side.Buy).elements (D.held sides.old Side.Sell).elements 0 trades.old → record { table = trades.new; place = result; buys = (D.held sides.new Side.Buy).elements; sells = (D.held sides.new Side.Sell).elements } ≡ sweep_at band (D.held sides.old Side.Buy).elements (D.held sides.old Side.Sell).elements 0 trades.old }
 {
     let mut place = 0;
+    // A named form, kept: matching is a loop left by `break`.
     loop {
-        let Some(BuyOrder(buy)) = buys.first() else {
+        let Some(buy) = sides.first(Side::Buy) else {
             break;
         };
         let incoming = Incoming {
@@ -33,8 +30,8 @@ pub(crate) fn sweep<B: Queue<BuyOrder>, S: Queue<SellOrder>>(
             lots: buy.lots,
             rested: Some(buy.turn),
         };
-        let met = meet(&incoming, band, sells, trades, place);
-        let _ = buys.cut(buy.number, buy.lots - met.left);
+        let met = meet(&incoming, band, sides, trades, place);
+        let _ = sides.cut(Side::Buy, buy.number, buy.lots - met.left);
         let traded = place < met.place;
         place = met.place;
         if met.left > 0 || !traded {

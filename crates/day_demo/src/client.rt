@@ -1,9 +1,13 @@
 // A client of the book: whatever its calls answer, the laws of the day hold of what they leave.
 ghost use Rattle.std.specs.Prelude.{IfOk};
-ghost use Rattle.book.specs.Books.{closed_book};
+ghost use Rattle.terms.specs.declared.side.Side.{Side as AnySide};
+ghost use Rattle.rules.specs.Book.{Answers};
+ghost use Rattle.book.specs.Books.{waiting_book, closed_book};
+ghost use Rattle.book.specs.Sided.{side_held};
 ghost use Rattle.day_demo.specs.Shown.{Shown};
 
-use book::phase::{Book, Closed};
+use book::phase::{Book, Closed, Waiting};
+use book::sides::{Sides, TwoQueues};
 use orders::Sided;
 use orders::order::{BuyOrder, SellOrder};
 use price_range::PriceRange;
@@ -14,7 +18,37 @@ use terms::setup::Instrument;
 use terms::side::{Side, TimeInForce};
 use terms::trade::Trade;
 
-// Opens, quotes, orders, changes, halts, changes, resumes, quotes, renews and ends. Refused calls are part of the day.
+// Quotes, orders, changes, halts, changes, resumes, quotes, renews and ends. Refused calls are part of the day.
+fn trading_day<D: Sides, R: PriceRange>(
+    waiting: Book<Waiting>,
+    quote: QuoteEntry,
+    order: OrderEntry,
+    change: OrderChange,
+    sides: &mut D,
+    range: &mut R,
+    trades: &mut [Trade],
+) -> Result<Book<Closed>, Refusal>
+    ensures same { D.same_queues sides.old sides.new }
+    ensures day { IfOk result (λ c. ((s : AnySide) → D.lawful sides.old s) → (ρ : Answers) → Shown ρ (waiting_book waiting (D.held sides.old) (R.PriceRange.answers range.old)) → Shown ρ (closed_book c (D.held sides.new) (R.PriceRange.answers range.new))) }
+{
+    let mut trading = match waiting.quote(quote, sides, range, trades) {
+        Ok((trading, _)) => trading,
+        Err((_, refusal)) => return Err(refusal),
+    };
+    let _ = trading.order(Side::Buy, TimeInForce::Day, order, sides, range, trades);
+    let _ = trading.change(change, sides, range, trades);
+    let mut halted = trading.halt();
+    let _ = halted.change(change, sides);
+    let mut trading = match halted.resume().quote(quote, sides, range, trades) {
+        Ok((trading, _)) => trading,
+        Err((_, refusal)) => return Err(refusal),
+    };
+    let _ = trading.renew(sides, range, trades);
+    let (closed, _) = trading.end(sides);
+    Ok(closed)
+}
+
+// Opens a book on two empty queues, and goes through such a day. Both queues stay the caller's.
 pub fn short_day<B: Queue<BuyOrder>, S: Queue<SellOrder>, R: PriceRange>(
     terms: Instrument,
     quote: QuoteEntry,
@@ -25,30 +59,9 @@ pub fn short_day<B: Queue<BuyOrder>, S: Queue<SellOrder>, R: PriceRange>(
     range: &mut R,
     trades: &mut [Trade],
 ) -> Result<Book<Closed>, Refusal>
-    ensures { IfOk result (λ c. Shown (R.PriceRange.answers range.old) (closed_book c (B.Queue.held buys.new) (S.Queue.held sells.new) (R.PriceRange.answers range.new))) }
+    ensures { IfOk result (λ c. Shown (R.PriceRange.answers range.old) (closed_book c (side_held (B.Queue.held buys.new) (S.Queue.held sells.new)) (R.PriceRange.answers range.new))) }
 {
     let waiting = Book::open(terms, buys, sells)?;
-    let mut trading = match waiting.quote(quote, buys, sells, range, trades) {
-        Ok((trading, _)) => trading,
-        Err((_, refusal)) => return Err(refusal),
-    };
-    let _ = trading.order(
-        Side::Buy,
-        TimeInForce::Day,
-        order,
-        buys,
-        sells,
-        range,
-        trades,
-    );
-    let _ = trading.change(change, buys, sells, range, trades);
-    let mut halted = trading.halt();
-    let _ = halted.change(change, buys, sells);
-    let mut trading = match halted.resume().quote(quote, buys, sells, range, trades) {
-        Ok((trading, _)) => trading,
-        Err((_, refusal)) => return Err(refusal),
-    };
-    let _ = trading.renew(buys, sells, range, trades);
-    let (closed, _) = trading.end(buys, sells);
-    Ok(closed)
+    let mut sides = TwoQueues { buys, sells };
+    trading_day(waiting, quote, order, change, &mut sides, range, trades)
 }

@@ -1,7 +1,6 @@
 -- What a call gave is what the rules give.
 use Rattle.std.proofs.Common.{◌≡◌, ℕ, ◌+◌, ◌-◌, Bool, true, false, cond, List, [], ◌∷◌, ◌++◌, length, take, drop, Some, None, Option, sym, refl, ap, ◌∙◌, subst, arith}
 use Rattle.std.proofs.lemmas.List.{take_at}
-use Rattle.terms.specs.declared.message.OrderCancel.{OrderCancel}
 use Rattle.terms.specs.declared.message.OrderChange.{OrderChange}
 use Rattle.terms.specs.declared.message.OrderEntry.{OrderEntry}
 use Rattle.terms.specs.declared.message.QuoteEntry.{QuoteEntry}
@@ -165,28 +164,23 @@ renewal_ruled q k b a table table' buys sells range e passed w t =
     quote_settled (renew k) q.entry b a table table' buys sells range passed (ap (λ o. renewed o b) e) w t
 
 -- a call that makes no trade
-pub cancel_ruled : (c : OrderCancel) (f : Found) (b : Book) (buys sells : Held Order) → first_of (checks (cancel c) b) ≡ None → found b c.order ≡ Some f → pick f.side buys sells ≡ holding (on f.side b) (remove (rules.number_is c.order) (on f.side b).elements) → pick (other f.side) buys sells ≡ on (other f.side) b → ByRule (cancel c) b (answered (record { number = c.order; traded = 0; resting = 0; cancelled = f.order.lots; trades = 0 })) [] [] (book_with b b.next buys sells)
-cancel_ruled c f b buys sells passed here p q =
-    let d = sides_laid f.side b buys sells _ _ p q in
-    ruled_accepted (cancel c) b _ [] [] _ (cancelled c (Some f) b) passed (ap (λ o. cancelled c o b) here) refl refl (λ i. book_with b b.next (d.0 i) (d.1 i))
-
 pub lowered_ruled : (c : OrderChange) (k : ℕ) (f : Found) (b : Book) (buys sells : Held Order) (table : List Trade) → first_of (checks (change c k) b) ≡ None → found b c.order ≡ Some f → keeps_place c f.order ≡ true → pick f.side buys sells ≡ holding (on f.side b) (rules.lowered c (on f.side b).elements) → pick (other f.side) buys sells ≡ on (other f.side) b → ByRule (change c k) b (answered (record { number = c.order; traded = 0; resting = c.lots; cancelled = f.order.lots - c.lots; trades = 0 })) table table (book_with b b.next buys sells)
 lowered_ruled c k f b buys sells table passed here keeps p q =
     let d = sides_laid f.side b buys sells _ _ p q in
     let is : accepted (change c k) b ≡ cut_in_place c f b = ap (λ o. changed c o b) here ∙ ap (λ t. cond t (cut_in_place c f b) (reentered c f b)) keeps in
     ruled_accepted (change c k) b _ table table _ (cut_in_place c f b) passed is refl refl (λ i. book_with b b.next (d.0 i) (d.1 i))
 
--- the clauses of a call: by the rules, and so a day, where P and Q hold
-pub settled : (P Q : Type 0) {c : Call} {b b' : Book} {o : Outcome} {table table' : List Trade} → (P → Q → ByRule c b o table table' b') → (P → Q → ByRule c b o table table' b') × (P → Q → Keeps b (event_of c o table') b')
-settled P Q r = (r, λ l k. keeps_ruled (r l k))
+-- the clauses of a call: by the rules, and so a day, where P holds
+pub settled : (P : Type 0) {c : Call} {b b' : Book} {o : Outcome} {table table' : List Trade} → (P → ByRule c b o table table' b') → (P → ByRule c b o table table' b') × (P → Keeps b (event_of c o table') b')
+settled P r = (r, λ l. keeps_ruled (r l))
 
 -- an answer that is as it should be
 pub answered_by : {c : Call} {b b' : Book} {table table' : List Trade} (a : Answer) {d : Answer} → a ≡ d → ByRule c b (answered d) table table' b' → ByRule c b (answered a) table table' b'
 answered_by {c} {b} {b'} {table} {table'} a e r = subst (λ x. ByRule c b (answered x) table table' b') (sym e) r
 
 -- the same for every range that a call does not touch
-pub settled_all : (P Q : Type 0) (b b' : Answers → Book) {c : Call} {o : Outcome} {table table' : List Trade} → (P → Q → (r : Answers) → ByRule c (b r) o table table' (b' r)) → (P → Q → (r : Answers) → ByRule c (b r) o table table' (b' r)) × (P → Q → (r : Answers) → Keeps (b r) (event_of c o table') (b' r))
-settled_all P Q b b' f = (f, λ l k r. keeps_ruled (f l k r))
+pub settled_all : (P : Type 0) (b b' : Answers → Book) {c : Call} {o : Outcome} {table table' : List Trade} → (P → (r : Answers) → ByRule c (b r) o table table' (b' r)) → (P → (r : Answers) → ByRule c (b r) o table table' (b' r)) × (P → (r : Answers) → Keeps (b r) (event_of c o table') (b' r))
+settled_all P b b' f = (f, λ l r. keeps_ruled (f l r))
 
 -- a call that leaves an empty table leaves every table
 no_trades : (ts us : List Trade) → [] ≡ ts ++ us → ts ≡ []

@@ -1,15 +1,12 @@
 -- A sweep that writes its trades into a table, one buy at a time.
-use Rattle.std.proofs.Common.{◌≡◌, ℕ, suc, ◌+◌, ◌-◌, ◌<◌, ◌≤◌, cond, eqb, ◌⊎◌, List, [], ◌∷◌, ◌++◌, map, length, take, drop, Some, None, Option, sym, refl, ap, ◌∙◌, subst, inl, inr, arith, length-append, length-drop}
+use Rattle.std.proofs.Common.{◌≡◌, ℕ, suc, ◌+◌, ◌-◌, ◌<◌, ◌≤◌, cond, eqb, ◌⊎◌, List, [], ◌∷◌, ◌++◌, length, take, drop, Some, Option, sym, refl, ap, ◌∙◌, subst, inl, inr, arith, length-append, length-drop}
 use Rattle.std.proofs.lemmas.List.{append_assoc, take_at, drop_at, drop-drop, length-take-le}
 use Rattle.std.proofs.lemmas.Bool.{cases_eq, eq-eqb, ne_eqb}
 use Rattle.std.specs.List.{AllByRecursion}
 use Rattle.terms.specs.declared.side.Side.{Side}
 use Rattle.terms.specs.declared.side.Side.TheVariants.{Buy}
 use Rattle.terms.specs.declared.trade.Trade.{Trade}
-use Rattle.queue.proofs.Carried.{map_cut}
-use Rattle.queue.specs.Carries.{Carries, map_held}
 use Rattle.queue.specs.Held.{Held, head, after_cut}
-use Rattle.queue.specs.Rank.{Rank}
 use Rattle.orders.specs.Priority.{rank_of, with_lots}
 use Rattle.orders.specs.declared.order.Order.{Order}
 use Rattle.price_range.specs.declared.band.Band.{Band}
@@ -153,12 +150,12 @@ sweep_empty r sells place table =
     sym (λ i. record { table = written_none place table i; place = p i; buys = []; sells = sells })
 
 -- one round of the loop: the first buy is found, meets the sells, and its lots are cut off
-module _ {E : Type 0} (f : E → Order) (q : Rank E) (c : Carries f q (rank_of Buy)) (h h' : Held E) (e : E) (o : Order) (first : Some e ≡ head h.elements) (plain : o ≡ f e) (r : Option Band) (sells : List Order) (place : ℕ) (table table' : List Trade) (place' left : ℕ) (rest : List Order) (fits : FitsBoth (map f h.elements) sells place table) (met : Fits sells place table → record { table = table'; place = place'; left = left; rest = rest } ≡ meet_at r Buy (lifted o) o.lots sells place table) (cut : h' ≡ after_cut q h o.number (o.lots - left)) where
+module _ (h h' : Held Order) (o : Order) (first : Some o ≡ head h.elements) (r : Option Band) (sells : List Order) (place : ℕ) (table table' : List Trade) (place' left : ℕ) (rest : List Order) (fits : FitsBoth h.elements sells place table) (met : Fits sells place table → record { table = table'; place = place'; left = left; rest = rest } ≡ meet_at r Buy (lifted o) o.lots sells place table) (cut : h' ≡ after_cut (rank_of Buy) h o.number (o.lots - left)) where
   abbrev os : List Order
-  os = (split f q Buy c h e first).0
+  os = (split Buy h o first).0
 
-  list : map f h.elements ≡ o ∷ os
-  list = (split f q Buy c h e first).1 ∙ ap (λ x. x ∷ os) (sym plain)
+  list : h.elements ≡ o ∷ os
+  list = (split Buy h o first).1
 
   fit : FitsBoth (o ∷ os) sells place table
   fit = subst (λ x. FitsBoth x sells place table) list fits
@@ -166,28 +163,23 @@ module _ {E : Type 0} (f : E → Order) (q : Rank E) (c : Carries f q (rank_of B
   came : record { table = table'; place = place'; left = left; rest = rest } ≡ meet_at r Buy (lifted o) o.lots sells place table
   came = met (first_fits r o os sells place table fit)
 
-  cut_is : map f h'.elements ≡ cut_to o left os
+  cut_is : h'.elements ≡ cut_to o left os
   cut_is =
-      ap (λ x. x.elements)
-      (ap (map_held f) cut ∙ map_cut f q (rank_of Buy) c h o.number (o.lots - left) ∙ cut_to_lem Buy (map_held f h) o os left list fit.buying.0 (left_fits r o os sells place table fit table' place' left rest came))
+      ap (λ x. x.elements) (cut ∙ cut_to_lem Buy h o os left list fit.buying.0 (left_fits r o os sells place table fit table' place' left rest came))
 
-  pub round_goes_on : left ≡ 0 → FitsBoth (map f h'.elements) rest place' table' × (sweep_at r (map f h'.elements) rest place' table' ≡ sweep_at r (map f h.elements) sells place table)
+  pub round_goes_on : left ≡ 0 → FitsBoth h'.elements rest place' table' × (sweep_at r h'.elements rest place' table' ≡ sweep_at r h.elements sells place table)
   round_goes_on z =
-      let gone : map f h'.elements ≡ os = cut_is ∙ rw (eq-eqb left 0 z) refl in
+      let gone : h'.elements ≡ os = cut_is ∙ rw (eq-eqb left 0 z) refl in
       let on = sweep_goes_on r o os sells place table fit table' place' left rest came z in
       (subst (λ x. FitsBoth x rest place' table') (sym gone) on.0, ap (λ x. sweep_at r x rest place' table') gone ∙ on.1 ∙ ap (λ x. sweep_at r x sells place table) (sym list))
 
-  round_stops : 0 < left → record { table = table'; place = place'; buys = map f h'.elements; sells = rest } ≡ sweep_at r (map f h.elements) sells place table
+  round_stops : 0 < left → record { table = table'; place = place'; buys = h'.elements; sells = rest } ≡ sweep_at r h.elements sells place table
   round_stops z =
-      let kept : map f h'.elements ≡ with_lots o left ∷ os = cut_is ∙ rw (ne_eqb left 0 (λ y. omega arith)) refl in
+      let kept : h'.elements ≡ with_lots o left ∷ os = cut_is ∙ rw (ne_eqb left 0 (λ y. omega arith)) refl in
       ap (λ x. record { table = table'; place = place'; buys = x; sells = rest }) kept ∙ sweep_stops r o os sells place table fit table' place' left rest came z
       ∙ ap (λ x. sweep_at r x sells place table) (sym list)
 
   -- lots are left; a buy of which none are left did trade
-  pub round_ends : (0 < left) ⊎ ((left ≤ 0) × (place' ≤ place)) → record { table = table'; place = place'; buys = map f h'.elements; sells = rest } ≡ sweep_at r (map f h.elements) sells place table
+  pub round_ends : (0 < left) ⊎ ((left ≤ 0) × (place' ≤ place)) → record { table = table'; place = place'; buys = h'.elements; sells = rest } ≡ sweep_at r h.elements sells place table
   round_ends (inl z) = round_stops z
   round_ends (inr z) = absurd (omega (arith, z.1, some_traded r o os sells place table fit table' place' left rest came (omega (arith, z.0))))
-
-pub sweep_none : {E : Type 0} (f : E → Order) (xs : List E) (r : Option Band) (sells : List Order) (place : ℕ) (table : List Trade) → None ≡ head xs → record { table = table; place = place; buys = map f xs; sells = sells } ≡ sweep_at r (map f xs) sells place table
-sweep_none f [] r sells place table e = sweep_empty r sells place table
-sweep_none f (x ∷ xs) r sells place table e = let z : ◌≡◌ {A = ℕ} 0 1 = cc in absurd (omega arith)

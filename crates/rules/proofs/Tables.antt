@@ -1,18 +1,15 @@
 -- A meeting that writes its trades into a table, one step at a time.
-use Rattle.std.proofs.Common.{◌≡◌, ℕ, suc, ◌+◌, ◌-◌, ◌<◌, ◌≤◌, min, Bool, true, false, cond, eqb, List, [], ◌∷◌, ◌++◌, map, length, take, drop, set, Some, None, Option, sym, refl, ap, ◌∙◌, subst, arith, length-set, take-suc-set, drop-set-lt}
+use Rattle.std.proofs.Common.{◌≡◌, ℕ, suc, ◌+◌, ◌-◌, ◌<◌, ◌≤◌, min, true, cond, eqb, List, [], ◌∷◌, ◌++◌, length, take, drop, set, Some, Option, sym, refl, ap, ◌∙◌, subst, arith, length-set, take-suc-set, drop-set-lt}
 use Rattle.std.proofs.lemmas.List.{append_assoc, take-append-drop}
 use Rattle.std.proofs.lemmas.Bool.{eq-eqb, ne_eqb, le-leb, true≢false}
 use Rattle.terms.specs.declared.side.Side.{Side}
 use Rattle.terms.specs.declared.trade.Trade.{Trade}
 use Rattle.std.specs.List.{AllByRecursion}
-use Rattle.queue.proofs.Carried.{map_cut}
-use Rattle.queue.specs.Carries.{Carries, map_held}
 use Rattle.queue.specs.Held.{Held, after_cut, head}
-use Rattle.queue.specs.Rank.{Rank}
 use Rattle.orders.specs.Priority.{rank_of, with_lots}
 use Rattle.orders.specs.declared.order.Order.{Order}
 use Rattle.price_range.specs.declared.band.Band.{Band}
-use Rattle.rules.specs.Meeting.{Incoming, can_meet, Step, stop, stepped, trade, Met, meet}
+use Rattle.rules.specs.Meeting.{Incoming, can_meet, Step, stepped, trade, Met, meet}
 use Rattle.rules.specs.Tables.{written, Fits, meeting_of, meet_at}
 use Rattle.rules.proofs.Coupling.{StepIs, is_done, is_apart, is_part, is_whole, step_is}
 
@@ -32,9 +29,6 @@ written_next place t ts table h =
 -- an order loses lots, and goes where it has none left
 abbrev pub cut_first : Order → ℕ → List Order → List Order
 cut_first o d os = cond (eqb o.lots d) os (with_lots o (o.lots - d) ∷ os)
-
-meeting_same : (m n : Met) (place : ℕ) (table : List Trade) → m ≡ n → meeting_of m place table ≡ meeting_of n place table
-meeting_same m n place table e = ap (λ x. meeting_of x place table) e
 
 meet_zero : (r : Option Band) (s : Side) (i : Incoming) (os : List Order) → meet r s i 0 os ≡ record { trades = []; left = 0; rest = os }
 meet_zero r s i [] = refl
@@ -80,13 +74,6 @@ pub meet_empty : (r : Option Band) (s : Side) (i : Incoming) (k : ℕ) (os : Lis
 meet_empty r s i k os place table e =
     ends (meet r s i k os) k os place table (ap (λ x. meet r s i k x) e ∙ ap (λ x. record { trades = []; left = k; rest = x }) (sym e))
 
-pub meet_apart : (r : Option Band) (s : Side) (i : Incoming) (k : ℕ) (o : Order) (os : List Order) (place : ℕ) (table : List Trade) → can_meet r s i.limit o.price ≡ false → record { table = table; place = place; left = k; rest = o ∷ os } ≡ meet_at r s i k (o ∷ os) place table
-meet_apart r s i k o os place table a = ends (meet r s i k (o ∷ os)) k (o ∷ os) place table (rw a (go (eqb k 0)))
-  where
-    go : (t : Bool) → stepped (cond t stop stop) r s i k o os (meet r s i (k - o.lots) os) ≡ record { trades = []; left = k; rest = o ∷ os }
-    go true = refl
-    go false = refl
-
 -- a cut of the first order of a queue
 pub cut_first_lem : (s : Side) (h : Held Order) (o : Order) (os : List Order) (d : ℕ) → h.elements ≡ o ∷ os → 0 < d → d ≤ o.lots → after_cut (rank_of s) h o.number d ≡ record { capacity = h.capacity; elements = cut_first o d os }
 cut_first_lem s h o os d e z b =
@@ -107,34 +94,21 @@ onward r s i k d o os place table z e m f =
       meets = sym (meet-next r s i k d o os place table z e m (omega (arith, f.room)));
     }
 
-module _ {E : Type 0} (f : E → Order) (q : Rank E) (t : Side) (c : Carries f q (rank_of t)) (h : Held E) (e : E) (first : Some e ≡ head h.elements) where
-  pub split : (os : List Order) × (map f h.elements ≡ f e ∷ os)
+module _ (t : Side) (h : Held Order) (o : Order) (first : Some o ≡ head h.elements) where
+  pub split : (os : List Order) × (h.elements ≡ o ∷ os)
   split = go h.elements first
     where
-      go : (xs : List E) → Some e ≡ head xs → (os : List Order) × (map f xs ≡ f e ∷ os)
+      go : (xs : List Order) → Some o ≡ head xs → (os : List Order) × (xs ≡ o ∷ os)
       go [] w = let z : ◌≡◌ {A = ℕ} 0 1 = cc in absurd (omega arith)
-      go (x ∷ xs) w = let s : e ≡ x = cc in (map f xs, ap (λ y. f y ∷ map f xs) (sym s))
+      go (x ∷ xs) w = let s : o ≡ x = cc in (xs, ap (λ y. y ∷ xs) (sym s))
 
-  pub meet_cut : (r : Option Band) (s : Side) (i : Incoming) (k d place : ℕ) (table : List Trade) (o : Order) (h' : Held E) → o ≡ f e → 0 < k → d ≡ min k o.lots → can_meet r s i.limit o.price ≡ true → Fits (map f h.elements) place table → h' ≡ after_cut q h o.number d → (h'.capacity ≡ h.capacity) × Onward r s i k (map f h.elements) place table (k - d) (map f h'.elements) (set table place (trade r s i o d))
-  meet_cut r s i k d place table o h' p z b m w u =
+  pub meet_cut : (r : Option Band) (s : Side) (i : Incoming) (k d place : ℕ) (table : List Trade) (h' : Held Order) → 0 < k → d ≡ min k o.lots → can_meet r s i.limit o.price ≡ true → Fits h.elements place table → h' ≡ after_cut (rank_of t) h o.number d → Onward r s i k h.elements place table (k - d) h'.elements (set table place (trade r s i o d))
+  meet_cut r s i k d place table h' z b m w u =
       let os = split.0 in
-      let list : map f h.elements ≡ o ∷ os = split.1 ∙ ap (λ x. x ∷ os) (sym p) in
-      let fits : Fits (o ∷ os) place table = subst (λ x. Fits x place table) list w in
-      let cut : map_held f h' ≡ record { capacity = h.capacity; elements = cut_first o d os } =
-      ap (map_held f) u ∙ map_cut f q (rank_of t) c h o.number d ∙ cut_first_lem t (map_held f h) o os d list (omega (arith, fits.some.0)) (omega arith) in (
-        ap (λ x. x.capacity) cut,
-        subst (λ x. Onward r s i k x place table (k - d) (map f h'.elements) (set table place (trade r s i o d))) (sym list)
-            (subst (λ x. Onward r s i k (o ∷ os) place table (k - d) x (set table place (trade r s i o d))) (sym (ap (λ x. x.elements) cut)) (onward r s i k d o os place table z b m fits)),
-      )
-
-  pub stops_apart : (r : Option Band) (s : Side) (i : Incoming) (k place : ℕ) (table : List Trade) (o : Order) → o ≡ f e → can_meet r s i.limit o.price ≡ false → record { table = table; place = place; left = k; rest = map f h.elements } ≡ meet_at r s i k (map f h.elements) place table
-  stops_apart r s i k place table o p m =
-      subst (λ x. record { table = table; place = place; left = k; rest = x } ≡ meet_at r s i k x place table) (sym split.1)
-      (meet_apart r s i k (f e) split.0 place table (ap (λ x. can_meet r s i.limit x.price) (sym p) ∙ m))
-
-pub stops_empty : {E : Type 0} (f : E → Order) (xs : List E) (r : Option Band) (s : Side) (i : Incoming) (k place : ℕ) (table : List Trade) → None ≡ head xs → record { table = table; place = place; left = k; rest = map f xs } ≡ meet_at r s i k (map f xs) place table
-stops_empty f [] r s i k place table e = meet_empty r s i k [] place table refl
-stops_empty f (x ∷ xs) r s i k place table e = let z : ◌≡◌ {A = ℕ} 0 1 = cc in absurd (omega arith)
+      let fits : Fits (o ∷ os) place table = subst (λ x. Fits x place table) split.1 w in
+      let cut : h' ≡ record { capacity = h.capacity; elements = cut_first o d os } = u ∙ cut_first_lem t h o os d split.1 (omega (arith, fits.some.0)) (omega arith) in
+      subst (λ x. Onward r s i k x place table (k - d) h'.elements (set table place (trade r s i o d))) (sym split.1)
+      (subst (λ x. Onward r s i k (o ∷ os) place table (k - d) x (set table place (trade r s i o d))) (sym (ap (λ x. x.elements) cut)) (onward r s i k d o os place table z b m fits))
 
 pub stops_full : (os : List Order) (r : Option Band) (s : Side) (i : Incoming) (k place : ℕ) (table : List Trade) → length table ≤ place → Fits os place table → record { table = table; place = place; left = k; rest = os } ≡ meet_at r s i k os place table
 stops_full [] r s i k place table h f = meet_empty r s i k [] place table refl

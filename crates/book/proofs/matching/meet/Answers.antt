@@ -1,72 +1,50 @@
-use Rattle.std.proofs.Common.{◌≡◌, ◌+◌, ◌-◌, ◌<◌, map, set, sym, refl, ap, ◌∙◌, subst, ⊎_elim, arith, length-set}
+use Rattle.std.proofs.Common.{◌≡◌, ◌-◌, ◌<◌, set, Some, sym, ap, ◌∙◌, subst, ⊎_elim, arith, length-set}
 use Rattle.queue.proofs.Puts.{unless_capacity}
+use Rattle.queue.specs.Held.{after_cut, head}
+use Rattle.orders.specs.Priority.{rank_of}
 use Rattle.rules.specs.Book.{other}
-use Rattle.rules.specs.Tables.{Fits, meet_at}
-use Rattle.rules.proofs.Tables.{meet_cut, meet_done, stops_apart, stops_empty, stops_full}
+use Rattle.rules.specs.Tables.{Fits}
+use Rattle.rules.proofs.Tables.{Onward, meet_cut, meet_done, stops_full}
 use Rattle.book.specs.Matching.{incoming_of}
+use Rattle.book.proofs.OnSides.{other-other}
 use Rattle.book.proofs.matching.meet.Goals as goal
-
-pub loop-lots-init : goal.loop-lots-init
-loop-lots-init g c = ((omega arith, (λ h. absurd (omega arith)), omega arith), λ l. (l, refl, λ f. ((λ _. f), refl)))
 
 pub loop-lots-preserved : goal.loop-lots-preserved
 loop-lots-preserved g c =
     let v = c.loop-lots.invariant in
-    let held = g.Q.Queue.held c.loop-lots.opposite in
-    let some : 0 < c.loop-lots.lots = omega (arith, c.if-lots-eq0.false) in (
-      (omega (arith, v.0.0), (λ h. omega (arith, length-set c.loop-lots.trades c.loop-lots.next c.trade.result)), omega (arith, v.0.2)),
-      λ l.
-          let w = v.1 l in
-          let cut = c.cut.ensures.leaves w.0 in (
-            c.cut.ensures.keeps w.0,
-            ap (λ h. h.capacity) cut ∙ unless_capacity _ held _ ∙ w.1,
-            λ f.
-                let on =
-                meet_cut g.E.Sided.plain g.E.Ranked.rank (other c.args.incoming.now.side) c.requires held c.in-Some.first (c.in-Some.ensures w.0) c.args.band c.args.incoming.now.side (incoming_of c.args.incoming.now) c.loop-lots.lots c.min-dealt.result c.loop-lots.next c.loop-lots.trades c.order-resting.result (g.Q.Queue.held c.cut.new.self) c.order-resting.ensures some c.min-dealt.ensures (sym c.if-not-can_meet.ensures) ((w.2 f).0 some) cut in
-                subst (λ t. (0 < c.loop-lots.lots - c.min-dealt.result → Fits (map g.E.Sided.plain (g.Q.Queue.held c.cut.new.self).elements) (c.loop-lots.next + 1) (set c.loop-lots.trades c.loop-lots.next t)) × (meet_at c.args.band c.args.incoming.now.side (incoming_of c.args.incoming.now) (c.loop-lots.lots - c.min-dealt.result) (map g.E.Sided.plain (g.Q.Queue.held c.cut.new.self).elements) (c.loop-lots.next + 1) (set c.loop-lots.trades c.loop-lots.next t) ≡ meet_at c.args.band c.args.incoming.now.side (incoming_of c.args.incoming.now) c.args.incoming.now.lots (map g.E.Sided.plain (g.Q.Queue.held c.args.opposite.now).elements) c.args.place c.args.trades.now)) (sym c.trade.ensures) (on.1.fits, on.1.meets ∙ (w.2 f).1),
-          ),
-    )
-
-pub returns-then-lots-eq0 : goal.returns-then-lots-eq0
-returns-then-lots-eq0 g c =
-    let v = c.loop-lots.invariant in
-    let os = map g.E.Sided.plain (g.Q.Queue.held c.loop-lots.opposite).elements in
+    let s = c.args.incoming.now.side in
+    let i = incoming_of c.args.incoming.now in
+    let k = c.loop-lots.lots in
+    let d = c.min-dealt.result in
+    let o = c.in-Some.resting in
+    let held = g.D.Sides.held c.loop-lots.sides in
+    let held' = g.D.Sides.held c.cut.new.self in
+    let opposite = c.other-opposite.ensures in
+    let some : 0 < k = omega (arith, c.if-lots-eq0.false) in
+    let left = subst (λ t. g.D.Sides.lawful c.loop-lots.sides t → held' t ≡ after_cut (rank_of t) (held t) o.number d) opposite c.cut.ensures.leaves in
+    let first = subst (λ t. g.D.Sides.lawful c.loop-lots.sides t → Some o ≡ head (held t).elements) opposite c.in-Some.ensures in
+    let stays = subst (λ t. held' t ≡ held t) (ap other opposite ∙ other-other s) c.cut.ensures.stays in
+    let on =
+    λ (l : g.D.Sides.lawful c.args.sides.now (other s)) (f : Fits (g.D.Sides.held c.args.sides.now (other s)).elements c.args.place c.args.trades.now).
+    subst (λ t. Onward c.args.band s i k (held (other s)).elements c.loop-lots.next c.loop-lots.trades (k - d) (held' (other s)).elements (set c.loop-lots.trades c.loop-lots.next t)) (sym c.trade.ensures)
+    (meet_cut (other s) (held (other s)) o (first (v.keeps (other s) l)) c.args.band s i k d c.loop-lots.next c.loop-lots.trades (held' (other s)) some c.min-dealt.ensures (sym c.if-not-can_meet.ensures) (v.fits l f some) (left (v.keeps (other s) l))) in
     record {
-      places = (v.0.0, λ h. omega (arith, v.0.1 h, c.loop-lots.auto.trades));
-      left = v.0.2;
-      keeps = λ l. (v.1 l).0;
-      capacity = λ l. (v.1 l).1;
-      meets = λ l f.
-          let w = (v.1 l).2 f in
-          ⊎_elim
-          (λ e. meet_done c.args.band c.args.incoming.now.side (incoming_of c.args.incoming.now) c.loop-lots.lots os c.loop-lots.next c.loop-lots.trades e)
-          (λ e. stops_full os c.args.band c.args.incoming.now.side (incoming_of c.args.incoming.now) c.loop-lots.lots c.loop-lots.next c.loop-lots.trades e.1 (w.0 (omega (arith, e.0))))
-          c.then-lots-eq0.either
-          ∙ w.1;
+      places = (omega (arith, v.places.0), λ h. omega (arith, length-set c.loop-lots.trades c.loop-lots.next c.trade.result));
+      left = omega (arith, v.left);
+      keeps = λ t l. c.cut.ensures.keeps t (v.keeps t l);
+      same = g.met.D.Sides.same_still _ _ _ v.same c.cut.ensures.same;
+      own = stays ∙ v.own;
+      capacity = λ l. ap (λ h. h.capacity) (left (v.keeps (other s) l)) ∙ unless_capacity _ (held (other s)) _ ∙ v.capacity l;
+      fits = λ l f. (on l f).fits;
+      meets = λ l f. (on l f).meets ∙ v.meets l f;
     }
 
-pub returns-in_default : goal.returns-in_default
-returns-in_default g c =
+pub returns-then-lots-eq0-clause-meets : goal.returns-then-lots-eq0-clause-meets
+returns-then-lots-eq0-clause-meets g c l f =
     let v = c.loop-lots.invariant in
-    record {
-      places = (v.0.0, λ h. omega (arith, v.0.1 h, c.loop-lots.auto.trades));
-      left = v.0.2;
-      keeps = λ l. (v.1 l).0;
-      capacity = λ l. (v.1 l).1;
-      meets = λ l f.
-          stops_empty g.E.Sided.plain (g.Q.Queue.held c.loop-lots.opposite).elements c.args.band c.args.incoming.now.side (incoming_of c.args.incoming.now) c.loop-lots.lots c.loop-lots.next c.loop-lots.trades (c.in_default.ensures (v.1 l).0)
-          ∙ ((v.1 l).2 f).1;
-    }
-
-pub returns-then-not-can_meet : goal.returns-then-not-can_meet
-returns-then-not-can_meet g c =
-    let v = c.loop-lots.invariant in
-    record {
-      places = (v.0.0, λ h. omega (arith, v.0.1 h, c.loop-lots.auto.trades));
-      left = v.0.2;
-      keeps = λ l. (v.1 l).0;
-      capacity = λ l. (v.1 l).1;
-      meets = λ l f.
-          stops_apart g.E.Sided.plain g.E.Ranked.rank (other c.args.incoming.now.side) c.requires (g.Q.Queue.held c.loop-lots.opposite) c.in-Some.first (c.in-Some.ensures (v.1 l).0) c.args.band c.args.incoming.now.side (incoming_of c.args.incoming.now) c.loop-lots.lots c.loop-lots.next c.loop-lots.trades c.order-resting.result c.order-resting.ensures (sym c.if-not-can_meet.ensures)
-          ∙ ((v.1 l).2 f).1;
-    }
+    let s = c.args.incoming.now.side in
+    let i = incoming_of c.args.incoming.now in
+    let os = (g.D.Sides.held c.loop-lots.sides (other s)).elements in
+    ⊎_elim (λ e. meet_done c.args.band s i c.loop-lots.lots os c.loop-lots.next c.loop-lots.trades e)
+    (λ e. stops_full os c.args.band s i c.loop-lots.lots c.loop-lots.next c.loop-lots.trades e.1 (v.fits l f (omega (arith, e.0)))) c.then-lots-eq0.either
+    ∙ v.meets l f

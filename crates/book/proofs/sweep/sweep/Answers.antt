@@ -1,52 +1,49 @@
-use Rattle.std.proofs.Common.{map, sym, refl, ap, ◌∙◌, arith}
+use Rattle.std.proofs.Common.{◌-◌, sym, ap, ◌∙◌, arith}
+use Rattle.terms.specs.declared.side.Side.TheVariants.{Buy, Sell}
 use Rattle.queue.proofs.Puts.{unless_capacity}
-use Rattle.orders.proofs.Sides.{buys_carried}
-use Rattle.orders.specs.Priority.{buy_rank}
+use Rattle.queue.specs.Held.{after_cut}
+use Rattle.orders.specs.Priority.{rank_of}
+use Rattle.terms.specs.declared.side.Side.{Side}
+use Rattle.rules.specs.Tables.{FitsBoth}
 use Rattle.rules.proofs.Placing.{within_table}
-use Rattle.rules.proofs.Sweeps.{round_goes_on, round_ends, sweep_none}
+use Rattle.rules.proofs.Sweeps.{round_goes_on, round_ends}
 use Rattle.book.proofs.sweep.sweep.Goals as goal
 
 pub loop-buy-preserved : goal.loop-buy-preserved
 loop-buy-preserved g c =
-    let v = c.loop-buy.invariant in (
-      within_table c.loop-buy.place c.meet-met.result.place _ _ v.0 c.meet-met.ensures.places (sym c.meet-met.auto.trades),
-      (λ l.
-          let w = v.1 l in
-          (c.cut.ensures.keeps w.0, ap (λ h. h.capacity) (c.cut.ensures.leaves w.0) ∙ unless_capacity _ (g.B.Queue.held c.loop-buy.buys) _ ∙ w.1)),
-      (λ l. let w = v.2 l in (c.meet-met.ensures.keeps w.0, c.meet-met.ensures.capacity w.0 ∙ w.1)),
-      λ l k f.
-          let b = (v.1 l).0 in
-          let w = v.3 l k f in
-          let on =
-          round_goes_on (λ o. o.0) buy_rank buys_carried (g.B.Queue.held c.loop-buy.buys) (g.B.Queue.held c.cut.new.self) c.in-Some.field-0 c.in-Some.field-0.0 (c.in-Some.ensures b) refl c.args.band (map (λ o. o.0) (g.S.Queue.held c.loop-buy.sells).elements) c.loop-buy.place c.loop-buy.trades c.meet-met.new.trades c.meet-met.result.place c.meet-met.result.left (map (λ o. o.0) (g.S.Queue.held c.meet-met.new.opposite).elements) w.0 (c.meet-met.ensures.meets (v.2 k).0) (c.cut.ensures.leaves b) (omega arith) in
-          (on.0, on.1 ∙ w.1),
-    )
-
-pub returns-in_default : goal.returns-in_default
-returns-in_default g c =
     let v = c.loop-buy.invariant in
+    let met = c.meet-met in
+    let held = g.D.Sides.held c.loop-buy.sides in
+    let held₁ = g.D.Sides.held met.new.sides in
+    let held' = g.D.Sides.held c.cut.new.self in
+    let buy = c.in-Some.buy in
+    let cut = λ (l : (s : Side) → g.D.Sides.lawful c.args.sides.now s). c.cut.ensures.leaves (met.ensures.keeps Buy (v.keeps Buy (l Buy))) ∙ ap (λ h. after_cut (rank_of Buy) h buy.number (buy.lots - met.result.left)) met.ensures.own in
+    let on =
+    λ (l : (s : Side) → g.D.Sides.lawful c.args.sides.now s) (f : FitsBoth (g.D.Sides.held c.args.sides.now Buy).elements (g.D.Sides.held c.args.sides.now Sell).elements 0 c.args.trades.now).
+    round_goes_on (held Buy) (held' Buy) buy (c.in-Some.ensures (v.keeps Buy (l Buy))) c.args.band (held Sell).elements c.loop-buy.place c.loop-buy.trades met.new.trades met.result.place met.result.left (held' Sell).elements (v.fits l f)
+    (λ w. (λ i. record { table = met.new.trades; place = met.result.place; left = met.result.left; rest = (c.cut.ensures.stays i).elements }) ∙ met.ensures.meets (v.keeps Sell (l Sell)) w)
+    (cut l) (omega arith) in
     record {
-      places = omega (arith, v.0, c.loop-buy.auto.trades);
-      keeps = ((λ l. (v.1 l).0), λ l. (v.2 l).0);
-      capacity = ((λ l. (v.1 l).1), λ l. (v.2 l).1);
-      sweeps = λ l k f.
-          sweep_none (λ o. o.0) (g.B.Queue.held c.loop-buy.buys).elements c.args.band (map (λ o. o.0) (g.S.Queue.held c.loop-buy.sells).elements) c.loop-buy.place c.loop-buy.trades (c.in_default.ensures (v.1 l).0)
-          ∙ (v.3 l k f).1;
-    }
-
-pub returns-then-met-gt0 : goal.returns-then-met-gt0
-returns-then-met-gt0 g c =
-    let v = c.loop-buy.invariant in
-    record {
-      places = within_table c.loop-buy.place c.meet-met.result.place _ _ v.0 c.meet-met.ensures.places c.loop-buy.auto.trades;
-      keeps = ((λ l. c.cut.ensures.keeps (v.1 l).0), λ l. c.meet-met.ensures.keeps (v.2 l).0);
-      capacity = (
-        (λ l. ap (λ h. h.capacity) (c.cut.ensures.leaves (v.1 l).0) ∙ unless_capacity _ (g.B.Queue.held c.loop-buy.buys) _ ∙ (v.1 l).1),
-        λ l. c.meet-met.ensures.capacity (v.2 l).0 ∙ (v.2 l).1,
+      places = within_table c.loop-buy.place met.result.place _ _ v.places met.ensures.places (sym met.auto.trades);
+      keeps = λ s l. c.cut.ensures.keeps s (met.ensures.keeps s (v.keeps s l));
+      same = g.met.D.Sides.same_still _ _ _ v.same (g.met.D.Sides.same_still _ _ _ met.ensures.same c.cut.ensures.same);
+      capacity = λ l. (
+        ap (λ h. h.capacity) (cut l) ∙ unless_capacity _ (held Buy) _ ∙ (v.capacity l).0,
+        ap (λ h. h.capacity) c.cut.ensures.stays ∙ met.ensures.capacity (v.keeps Sell (l Sell)) ∙ (v.capacity l).1,
       );
-      sweeps = λ l k f.
-          let b = (v.1 l).0 in
-          let w = v.3 l k f in
-          round_ends (λ o. o.0) buy_rank buys_carried (g.B.Queue.held c.loop-buy.buys) (g.B.Queue.held c.cut.new.self) c.in-Some.field-0 c.in-Some.field-0.0 (c.in-Some.ensures b) refl c.args.band (map (λ o. o.0) (g.S.Queue.held c.loop-buy.sells).elements) c.loop-buy.place c.loop-buy.trades c.meet-met.new.trades c.meet-met.result.place c.meet-met.result.left (map (λ o. o.0) (g.S.Queue.held c.meet-met.new.opposite).elements) w.0 (c.meet-met.ensures.meets (v.2 k).0) (c.cut.ensures.leaves b) c.then-met-gt0.either
-          ∙ w.1;
+      fits = λ l f. (on l f).0;
+      sweeps = λ l f. (on l f).1 ∙ v.sweeps l f;
     }
+
+pub returns-then-met-gt0-clause-sweeps : goal.returns-then-met-gt0-clause-sweeps
+returns-then-met-gt0-clause-sweeps g c l f =
+    let v = c.loop-buy.invariant in
+    let met = c.meet-met in
+    let held = g.D.Sides.held c.loop-buy.sides in
+    let held' = g.D.Sides.held c.cut.new.self in
+    let buy = c.in-Some.buy in
+    let cut = c.cut.ensures.leaves (met.ensures.keeps Buy (v.keeps Buy (l Buy))) ∙ ap (λ h. after_cut (rank_of Buy) h buy.number (buy.lots - met.result.left)) met.ensures.own in
+    round_ends (held Buy) (held' Buy) buy (c.in-Some.ensures (v.keeps Buy (l Buy))) c.args.band (held Sell).elements c.loop-buy.place c.loop-buy.trades met.new.trades met.result.place met.result.left (held' Sell).elements (v.fits l f)
+    (λ w. (λ i. record { table = met.new.trades; place = met.result.place; left = met.result.left; rest = (c.cut.ensures.stays i).elements }) ∙ met.ensures.meets (v.keeps Sell (l Sell)) w)
+    cut c.then-met-gt0.either
+    ∙ v.sweeps l f

@@ -5,31 +5,22 @@ use Rattle.book.specs.declared.call.Phase.TheVariants.{Halted}
 use Rattle.book.proofs.Replies.{reply_outcome, reply_refused}
 use Rattle.book.proofs.call.Book+Halted.message.Goals as goal
 
-pub returns-in-Resume : goal.returns-in-Resume
-returns-in-Resume g c =
-    record {
-      refused = tt;
-      keeps = ((λ l. l), λ k. k);
-      by_rule = λ l k. called_by (ap (λ m. message_of m (length c.args.trades.now)) c.in-Resume.is) refl (on_table c.args.trades.now (c.resume.ensures.by_rule (g.B.Queue.held c.args.buys.now) (g.S.Queue.held c.args.sells.now) (g.R.PriceRange.answers c.args.range.now)));
-    }
+pub returns-in-Resume-clause-by_rule : goal.returns-in-Resume-clause-by_rule
+returns-in-Resume-clause-by_rule g c l = called_by (ap (λ m. message_of m (length c.args.trades.now)) c.in-Resume.is) refl (on_table c.args.trades.now (c.resume.ensures.by_rule (g.D.Sides.held c.args.sides.now) (g.R.PriceRange.answers c.args.range.now)))
 
-pub returns-in-End : goal.returns-in-End
-returns-in-End g c =
-    record {
-      refused = tt;
-      keeps = c.end.ensures.keeps;
-      by_rule = λ l k. called_by (ap (λ m. message_of m (length c.args.trades.now)) c.in-End.is) refl (on_table c.args.trades.now (c.end.ensures.by_rule l k (g.R.PriceRange.answers c.args.range.now)));
-    }
+pub returns-in-End-clause-by_rule : goal.returns-in-End-clause-by_rule
+returns-in-End-clause-by_rule g c l = called_by (ap (λ m. message_of m (length c.args.trades.now)) c.in-End.is) refl (on_table c.args.trades.now (c.end.ensures.by_rule l (g.R.PriceRange.answers c.args.range.now)))
 
 pub returns-in-Change : goal.returns-in-Change
 returns-in-Change g c =
     let x = c.change-result in
     let y = c.as_reply in
     record {
-      refused = reply_refused _ _ x.result y.result y.ensures (λ e h. (ap (λ p. Halted p) h.0, h.1, h.2, refl, refl)) x.ensures.refused;
+      refused = reply_refused _ _ x.result y.result y.ensures (λ e h. (ap (λ p. Halted p) h.0, h.1, refl, refl)) x.ensures.refused;
       keeps = x.ensures.keeps;
-      by_rule = λ l k.
-          let r = on_table c.args.trades.now (x.ensures.by_rule l k (g.R.PriceRange.answers c.args.range.now)) in
+      same = x.ensures.same;
+      by_rule = λ l.
+          let r = on_table c.args.trades.now (x.ensures.by_rule l (g.R.PriceRange.answers c.args.range.now)) in
           called_by (ap (λ m. message_of m (length c.args.trades.now)) c.in-Change.is) (reply_outcome x.result y.result y.ensures) (record { outcome = r.outcome; trades = r.trades; book = r.book });
     }
 
@@ -38,7 +29,8 @@ returns-in-Cancel g c =
     let x = c.cancel-result in
     let y = c.as_reply-in-Cancel in
     record {
-      refused = reply_refused _ _ x.result y.result y.ensures (λ e h. (refl, h.0, h.1, refl, refl)) x.ensures.refused;
+      refused = reply_refused _ _ x.result y.result y.ensures (λ e h. (refl, h, refl, refl)) x.ensures.refused;
       keeps = x.ensures.keeps;
-      by_rule = λ l k. called_by (ap (λ m. message_of m (length c.args.trades.now)) c.in-Cancel.is) (reply_outcome x.result y.result y.ensures) (on_table c.args.trades.now (x.ensures.by_rule l k (g.R.PriceRange.answers c.args.range.now)));
+      same = x.ensures.same;
+      by_rule = λ l. called_by (ap (λ m. message_of m (length c.args.trades.now)) c.in-Cancel.is) (reply_outcome x.result y.result y.ensures) (on_table c.args.trades.now (x.ensures.by_rule l (g.R.PriceRange.answers c.args.range.now)));
     }

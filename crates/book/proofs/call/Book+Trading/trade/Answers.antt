@@ -8,7 +8,8 @@ pub returns-in-Cancel : goal.returns-in-Cancel
 returns-in-Cancel g c =
     let x = c.cancel in
     record {
-      refused = still_refused _ _ x.result (λ e h. (refl, h.0, h.1, refl, refl)) x.ensures.refused;
+      refused = still_refused _ _ x.result (λ e h. (refl, h, refl, refl)) x.ensures.refused;
       keeps = x.ensures.keeps;
-      by_rule = λ l k stays. called_by (ap (λ m. message_of m (length c.args.trades.now)) c.in-Cancel.is) refl (on_table c.args.trades.now (x.ensures.by_rule l k (g.R.PriceRange.answers c.args.range.now)));
+      same = x.ensures.same;
+      by_rule = λ l stays. called_by (ap (λ m. message_of m (length c.args.trades.now)) c.in-Cancel.is) refl (on_table c.args.trades.now (x.ensures.by_rule l (g.R.PriceRange.answers c.args.range.now)));
     }

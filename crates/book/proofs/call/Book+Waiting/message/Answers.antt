@@ -3,10 +3,5 @@ use Rattle.rules.proofs.Ruled.{called_by, on_table}
 use Rattle.book.specs.Dispatch.{message_of}
 use Rattle.book.proofs.call.Book+Waiting.message.Goals as goal
 
-pub returns-in-End : goal.returns-in-End
-returns-in-End g c =
-    record {
-      refused = tt;
-      keeps = c.end.ensures.keeps;
-      by_rule = λ l k. called_by (ap (λ m. message_of m (length c.args.trades.now)) c.in-End.is) refl (on_table c.args.trades.now (c.end.ensures.by_rule l k (g.R.PriceRange.answers c.args.range.now)));
-    }
+pub returns-in-End-clause-by_rule : goal.returns-in-End-clause-by_rule
+returns-in-End-clause-by_rule g c l = called_by (ap (λ m. message_of m (length c.args.trades.now)) c.in-End.is) refl (on_table c.args.trades.now (c.end.ensures.by_rule l (g.R.PriceRange.answers c.args.range.now)))

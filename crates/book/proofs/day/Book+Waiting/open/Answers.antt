@@ -1,17 +1,12 @@
 use Rattle.std.proofs.Common.{◌≡◌, None, sym, refl}
 use Rattle.rules.proofs.Openings.{opens_a_day}
 use Rattle.rules.specs.Opening.{opening_refusal}
-use Rattle.book.specs.Matching.{plain_buys, plain_sells}
+use Rattle.book.specs.Sided.{plain_buys, plain_sells}
 use Rattle.book.proofs.day.Book+Waiting.open.Goals as goal
 
-pub returns : goal.returns
-returns g c =
+pub returns-clause-day : goal.returns-clause-day
+returns-clause-day g c range =
     let buys = plain_buys (g.B.Queue.held c.args.buys.now) in
     let sells = plain_sells (g.S.Queue.held c.args.sells.now) in
     let none : opening_refusal c.args.terms buys sells ≡ None = rw (sym c.if-not-is_allowed.ensures, sym c.if-not-is_fit.ensures.fits, sym c.if-not-is_fit-2.ensures.fits) refl in
-    record {
-      refused = tt;
-      opens = (none, refl);
-      lawful = (c.is_fit.ensures.lawful c.if-not-is_fit.false, c.is_fit-else-not-is_fit.ensures.lawful c.if-not-is_fit-2.false);
-      day = λ range. opens_a_day c.args.terms buys sells range none;
-    }
+    opens_a_day c.args.terms buys sells range none

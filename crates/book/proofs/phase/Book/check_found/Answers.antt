@@ -6,41 +6,39 @@ use Rattle.rules.proofs.Passing.{refused_by, passed_by}
 use Rattle.book.specs.Books.{book_of}
 use Rattle.book.specs.Changes.{phase_in, band_in}
 use Rattle.book.proofs.Changes.{risen, turn_taken}
+use Rattle.book.proofs.OnSides.{taken_on}
 use Rattle.book.proofs.Refusing.{passes, refuses}
 use Rattle.book.proofs.phase.Book.check_found.Goals as goal
 
 pub returns-in_err-check_rise-clause-answers : goal.returns-in_err-check_rise-clause-answers
-returns-in_err-check_rise-clause-answers g c l k =
+returns-in_err-check_rise-clause-answers g c l =
     let p = err_from_is_err_and c.from_residual-in_err-check_rise.result c.from_residual-in_err-check_rise.ensures.1 in
     let s = c.args.setting in
-    let buys = g.B.Queue.held c.args.buys.now in
-    let sells = g.S.Queue.held c.args.sells.now in
-    let here = sym (c.find_order.ensures.finds l k) ∙ c.in_ok-found.ensures.ok_part in
+    let held = g.D.Sides.held c.args.sides.now in
+    let here = sym (c.find_order.ensures.finds l) ∙ c.in_ok-found.ensures.ok_part in
     rw (p.1, p.2)
-    (ap (λ o. first_of (found_checks c.args.change.now o (book_of (phase_in s) c.args.self.now.terms c.args.self.now.next (g.P.DayPhase.last c.args.self.now.phase) buys sells (λ us. band_in s)))) here
-    ∙ risen c.args.change.now c.in_ok-found.found c.args.self.now.terms c.args.self.now.next (g.P.DayPhase.last c.args.self.now.phase) buys sells (passes _ _ c.in_ok-refuse_if.ensures) s _ (sym (refused_by _ _ c.in_err-check_rise.ensures)))
+    (ap (λ o. first_of (found_checks c.args.change.now o (book_of (phase_in s) c.args.self.now.terms c.args.self.now.next (g.P.DayPhase.last c.args.self.now.phase) held (λ us. band_in s)))) here
+    ∙ risen c.args.change.now c.in_ok-found.found c.args.self.now.terms c.args.self.now.next (g.P.DayPhase.last c.args.self.now.phase) held (passes _ _ c.in_ok-refuse_if.ensures) s _ (sym (refused_by _ _ c.in_err-check_rise.ensures)))
 
 pub returns-in_err-refuse_if-2-clause-answers : goal.returns-in_err-refuse_if-2-clause-answers
-returns-in_err-refuse_if-2-clause-answers g c l k =
+returns-in_err-refuse_if-2-clause-answers g c l =
     let p = err_from_is_err_and c.from_residual-in_err-refuse_if-2.result c.from_residual-in_err-refuse_if-2.ensures.1 in
     let s = c.args.setting in
-    let buys = g.B.Queue.held c.args.buys.now in
-    let sells = g.S.Queue.held c.args.sells.now in
-    let here = sym (c.find_order.ensures.finds l k) ∙ c.in_ok-found.ensures.ok_part in
-    let held = refuses _ _ c.in_err-refuse_if-2.ensures in
+    let held = g.D.Sides.held c.args.sides.now in
+    let here = sym (c.find_order.ensures.finds l) ∙ c.in_ok-found.ensures.ok_part in
+    let why = refuses _ _ c.in_err-refuse_if-2.ensures in
     rw (p.1, p.2)
-    (ap (λ o. first_of (found_checks c.args.change.now o (book_of (phase_in s) c.args.self.now.terms c.args.self.now.next (g.P.DayPhase.last c.args.self.now.phase) buys sells (λ us. band_in s)))) here
-    ∙ turn_taken c.args.change.now c.in_ok-found.found c.args.self.now.terms c.args.self.now.next (g.P.DayPhase.last c.args.self.now.phase) buys sells (passes _ _ c.in_ok-refuse_if.ensures) s c.is_turn_taken.result (sym (passed_by _ _ c.in_ok-check_rise.ensures)) (sym c.if-not-keeps_place.ensures) (passes _ _ c.in_ok-check_turns.ensures) (c.is_turn_taken.ensures (phase_in s) c.args.self.now.terms (g.P.DayPhase.last c.args.self.now.phase) (λ us. band_in s))
-    ∙ ap (λ u. cond u (Some AlreadyHeld) None) held.0 ∙ ap (λ r. Some r) (sym held.1))
+    (ap (λ o. first_of (found_checks c.args.change.now o (book_of (phase_in s) c.args.self.now.terms c.args.self.now.next (g.P.DayPhase.last c.args.self.now.phase) held (λ us. band_in s)))) here
+    ∙ turn_taken c.args.change.now c.in_ok-found.found c.args.self.now.terms c.args.self.now.next (g.P.DayPhase.last c.args.self.now.phase) held (passes _ _ c.in_ok-refuse_if.ensures) s c.is_taken-taken.result (sym (passed_by _ _ c.in_ok-check_rise.ensures)) (sym c.if-not-keeps_place.ensures) (passes _ _ c.in_ok-check_turns.ensures) (taken_on held c.in_ok-found.found.side c.args.self.now.next (Some c.in_ok-found.found.order.number) c.is_taken-taken.ensures)
+    ∙ ap (λ u. cond u (Some AlreadyHeld) None) why.0 ∙ ap (λ r. Some r) (sym why.1))
 
 pub returns-in_ok-refuse_if-2-clause-answers : goal.returns-in_ok-refuse_if-2-clause-answers
-returns-in_ok-refuse_if-2-clause-answers g c l k =
+returns-in_ok-refuse_if-2-clause-answers g c l =
     let s = c.args.setting in
-    let buys = g.B.Queue.held c.args.buys.now in
-    let sells = g.S.Queue.held c.args.sells.now in
-    let here = sym (c.find_order.ensures.finds l k) ∙ c.in_ok-found.ensures.ok_part in (
-      ap (λ o. first_of (found_checks c.args.change.now o (book_of (phase_in s) c.args.self.now.terms c.args.self.now.next (g.P.DayPhase.last c.args.self.now.phase) buys sells (λ us. band_in s)))) here
-          ∙ turn_taken c.args.change.now c.in_ok-found.found c.args.self.now.terms c.args.self.now.next (g.P.DayPhase.last c.args.self.now.phase) buys sells (passes _ _ c.in_ok-refuse_if.ensures) s c.is_turn_taken.result (sym (passed_by _ _ c.in_ok-check_rise.ensures)) (sym c.if-not-keeps_place.ensures) (passes _ _ c.in_ok-check_turns.ensures) (c.is_turn_taken.ensures (phase_in s) c.args.self.now.terms (g.P.DayPhase.last c.args.self.now.phase) (λ us. band_in s))
+    let held = g.D.Sides.held c.args.sides.now in
+    let here = sym (c.find_order.ensures.finds l) ∙ c.in_ok-found.ensures.ok_part in (
+      ap (λ o. first_of (found_checks c.args.change.now o (book_of (phase_in s) c.args.self.now.terms c.args.self.now.next (g.P.DayPhase.last c.args.self.now.phase) held (λ us. band_in s)))) here
+          ∙ turn_taken c.args.change.now c.in_ok-found.found c.args.self.now.terms c.args.self.now.next (g.P.DayPhase.last c.args.self.now.phase) held (passes _ _ c.in_ok-refuse_if.ensures) s c.is_taken-taken.result (sym (passed_by _ _ c.in_ok-check_rise.ensures)) (sym c.if-not-keeps_place.ensures) (passes _ _ c.in_ok-check_turns.ensures) (taken_on held c.in_ok-found.found.side c.args.self.now.next (Some c.in_ok-found.found.order.number) c.is_taken-taken.ensures)
           ∙ ap (λ u. cond u (Some AlreadyHeld) None) (passes _ _ c.in_ok-refuse_if-2.ensures),
       here,
     )

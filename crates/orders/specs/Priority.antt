@@ -3,9 +3,9 @@ use Rattle.std.specs.Prelude.{Bool, ◌||◌, ◌&&◌, ℕ, ◌==◌, nat_lt}
 use Rattle.terms.specs.declared.side.Side.{Side}
 use Rattle.terms.specs.declared.side.Side.TheVariants.{Buy, Sell}
 use Rattle.queue.specs.Rank.{Rank}
-use Rattle.orders.specs.declared.order.BuyOrder.{BuyOrder}
+use Rattle.orders.specs.Sides.{BuyOrder, SellOrder}
 use Rattle.orders.specs.declared.order.Order.{Order}
-use Rattle.orders.specs.declared.order.SellOrder.{SellOrder}
+use Rattle.orders.specs.declared.order.SideOrder.{SideOrder}
 
 -- at the same price the lower turn
 abbrev pub earlier : Order → Order → Bool
@@ -30,11 +30,13 @@ before Sell = sell_before
 abbrev pub rank_of : Side → Rank Order
 rank_of s = record { number = λ o. o.number; key = λ o. o.turn; lots = λ o. o.lots; before = before s; with_lots = with_lots }
 
--- the same of the two types of order
+-- the same of an order with its side in the type
+abbrev pub side_rank : {S : Type 0} → Side → Rank (SideOrder S)
+side_rank s =
+    record { number = λ o. o.0.number; key = λ o. o.0.turn; lots = λ o. o.0.lots; before = λ o p. before s o.0 p.0; with_lots = λ o n. record { 0 = with_lots o.0 n; 1 = o.1 } }
+
 abbrev pub buy_rank : Rank BuyOrder
-buy_rank =
-    record { number = λ o. o.0.number; key = λ o. o.0.turn; lots = λ o. o.0.lots; before = λ o p. buy_before o.0 p.0; with_lots = λ o n. record { 0 = with_lots o.0 n } }
+buy_rank = side_rank Buy
 
 abbrev pub sell_rank : Rank SellOrder
-sell_rank =
-    record { number = λ o. o.0.number; key = λ o. o.0.turn; lots = λ o. o.0.lots; before = λ o p. sell_before o.0 p.0; with_lots = λ o n. record { 0 = with_lots o.0 n } }
+sell_rank = side_rank Sell

@@ -1,8 +1,12 @@
 // A resting order. The side is in the type.
+ghost use Rattle.std.specs.Prelude.{◌≡◌};
+
+use crate::side::{Buys, Sells};
+use std::marker::PhantomData;
 use terms::side::Side;
 
 // What a resting order is on either side.
-#[derive(Clone, Copy)]
+#[derive(Clone, Copy, Debug, PartialEq, Eq)]
 pub struct Order {
     // the turn that it got on entering
     pub number: u32,
@@ -14,14 +18,24 @@ pub struct Order {
     pub turn: u32,
 }
 
-#[derive(Clone, Copy)]
-pub struct BuyOrder(pub Order);
+// An order of the side S.
+#[derive(Clone, Copy, Debug, PartialEq, Eq)]
+pub struct SideOrder<S>(pub Order, PhantomData<S>);
 
-#[derive(Clone, Copy)]
-pub struct SellOrder(pub Order);
+pub type BuyOrder = SideOrder<Buys>;
+
+pub type SellOrder = SideOrder<Sells>;
+
+impl<S> SideOrder<S> {
+    pub const fn new(order: Order) -> SideOrder<S>
+        ensures { result.0 ≡ order }
+    {
+        SideOrder(order, PhantomData)
+    }
+}
 
 // An order that was found, and its side.
-#[derive(Clone, Copy)]
+#[derive(Clone, Copy, Debug, PartialEq, Eq)]
 pub struct Found {
     pub side: Side,
     pub order: Order,

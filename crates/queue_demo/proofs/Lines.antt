@@ -1,13 +1,13 @@
 -- Text that grows by the lines of one order.
 use Rattle.std.proofs.Common.{◌≡◌, ℕ, ◌+◌, ◌<◌, ◌≤◌, Bool, true, false, cond, List, [], ◌++◌, length, get_or, drop, Some, None, codes, Option, sym, ap, ◌∙◌, append_assoc}
 use Rattle.std.proofs.lemmas.List.{at_drop_more, at_drop_all, append-nil}
-use Rattle.orders.specs.declared.order.BuyOrder.{BuyOrder}
+use Rattle.orders.specs.Sides.{BuyOrder, on_side}
 use Rattle.queue_demo.specs.Levels.{lots_at}
 use Rattle.queue_demo.specs.Reports.{price_line, order_line, opens, lines_below, report}
 
 -- what stands behind the last place
 abbrev pub blank : BuyOrder
-blank = record { 0 = record { number = 0; member = 0; price = 0; lots = 0; turn = 0 } }
+blank = on_side (record { number = 0; member = 0; price = 0; lots = 0; turn = 0 })
 
 -- the line of a new price
 pub price_new : (t : Bool) (price lots n : ℕ) (was mid : List ℕ) → t ≡ true → lots ≡ n → mid ≡ was ++ price_line price lots → mid ≡ was ++ cond t (price_line price n) []

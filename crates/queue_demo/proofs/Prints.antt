@@ -2,7 +2,7 @@
 use Rattle.std.proofs.Common.{◌≡◌, ℕ, Bool, true, false, cond, eqb, leb, List, [], ◌++◌, length, Ok, Err, codes, refl, ap, ◌∙◌}
 use Rattle.std.specs.Fmt.{digits}
 use Rattle.terms.specs.declared.refusal.Refusal.TheVariants.{UnfitQueue, QueueFull}
-use Rattle.orders.specs.declared.order.BuyOrder.{BuyOrder}
+use Rattle.orders.specs.Sides.{BuyOrder}
 use Rattle.queue.specs.Held.{Held}
 use Rattle.queue_demo.specs.Demo.{ranked_in, printed, printed_lines}
 use Rattle.queue_demo.specs.Reports.{report}

@@ -5,7 +5,7 @@ use Rattle.std.proofs.lemmas.Bool.{lt-leb, le-leb}
 use Rattle.terms.specs.declared.refusal.Refusal.{Refusal}
 use Rattle.terms.specs.declared.refusal.Refusal.TheVariants.{UnfitQueue, QueueFull}
 use Rattle.orders.specs.Priority.{buy_rank}
-use Rattle.orders.specs.declared.order.BuyOrder.{BuyOrder}
+use Rattle.orders.specs.Sides.{BuyOrder}
 use Rattle.queue.specs.Held.{Held, any, clash, insert, answer}
 use Rattle.queue.specs.Through.{insert_all, putting}
 use Rattle.queue_demo.specs.Demo.{ranked_in}

@@ -2,7 +2,7 @@
 use Rattle.std.specs.Prelude.{ℕ, cond, List, ◌++◌, length, Ok, Err, codes, Result, ◌==◌, nat_le}
 use Rattle.terms.specs.declared.refusal.Refusal.{Refusal}
 use Rattle.terms.specs.declared.refusal.Refusal.TheVariants.{UnfitQueue, QueueFull}
-use Rattle.orders.specs.declared.order.BuyOrder.{BuyOrder}
+use Rattle.orders.specs.Sides.{BuyOrder}
 use Rattle.queue.specs.Held.{Held}
 use Rattle.queue_demo.specs.Reports.{report}
 use Rattle.queue_demo.specs.Sample.{ranked}

@@ -2,7 +2,7 @@
 --   price_line, order_line   the two kinds of line
 --   report title orders    the title; a line an order, and above each new price its line
 use Rattle.std.specs.Prelude.{ℕ, Bool, true, cond, not, List, [], ◌∷◌, ◌++◌, Some, None, codes, decimal, Option, ◌==◌}
-use Rattle.orders.specs.declared.order.BuyOrder.{BuyOrder}
+use Rattle.orders.specs.Sides.{BuyOrder}
 use Rattle.queue_demo.specs.Levels.{lots_at}
 
 abbrev pub price_line : ℕ → ℕ → List ℕ

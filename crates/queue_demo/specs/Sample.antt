@@ -1,10 +1,10 @@
 -- The orders of the demonstration.
 use Rattle.std.specs.Prelude.{ℕ, List, [], ◌∷◌}
-use Rattle.orders.specs.declared.order.BuyOrder.{BuyOrder}
+use Rattle.orders.specs.Sides.{BuyOrder, on_side}
 
 -- an order of member 7, numbered by its turn
 abbrev pub buying : ℕ → ℕ → ℕ → BuyOrder
-buying number price lots = record { 0 = record { number = number; member = 7; price = price; lots = lots; turn = number } }
+buying number price lots = on_side (record { number = number; member = 7; price = price; lots = lots; turn = number })
 
 -- as they enter
 abbrev pub entered : List BuyOrder

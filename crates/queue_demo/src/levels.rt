@@ -15,9 +15,5 @@ fn lots_if(o: &BuyOrder, price: u32) -> u32
 pub fn lots_at(orders: &[BuyOrder], price: u32) -> u128
     ensures { result ≡ lots_at price orders.now }
 {
-    let mut sum = 0;
-    for o in orders {
-        sum += u128::from(lots_if(o, price));
-    }
-    sum
+    orders.iter().map(|o| u128::from(lots_if(o, price))).sum()
 }

@@ -9,7 +9,7 @@ const fn buy(number: u32, price: u32, lots: u32) -> BuyOrder
     ensures plain { result.0 ≡ record { number = number; member = 7; price = price; lots = lots; turn = number } }
     ensures gives { result ≡ buying number price lots }
 {
-    BuyOrder(Order {
+    BuyOrder::new(Order {
         number,
         member: 7,
         price,

@@ -3,9 +3,8 @@ use Rattle.terms.specs.declared.side.Side.{Side}
 use Rattle.terms.specs.declared.side.Side.TheVariants.{Buy, Sell}
 use Rattle.queue.specs.Carries.{map_held}
 use Rattle.queue.specs.Held.{Held}
-use Rattle.orders.specs.declared.order.BuyOrder.{BuyOrder}
 use Rattle.orders.specs.declared.order.Order.{Order}
-use Rattle.orders.specs.declared.order.SellOrder.{SellOrder}
+use Rattle.orders.specs.Sides.{BuyOrder, SellOrder}
 
 abbrev pub plain_buys : Held BuyOrder → Held Order
 plain_buys = map_held (λ o. o.0)

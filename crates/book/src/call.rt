@@ -11,7 +11,6 @@ ghost use Rattle.book.specs.Dispatch.{call_of, message_of, replied, reply_to, ph
 
 use crate::phase::{Book, Closed, Halted, Trading, Waiting};
 use crate::sides::Sides;
-use orders::Sided;
 use orders::order::{BuyOrder, SellOrder};
 use price_range::PriceRange;
 use queue::Queue;

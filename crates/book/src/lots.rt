@@ -2,7 +2,8 @@
 ghost use Rattle.std.specs.Prelude.{◌≡◌, ◌^◌, ◌<◌, map};
 ghost use Rattle.rules.specs.Book.{resting_lots, traded_lots};
 
-use orders::Sided;
+use orders::order::SideOrder;
+use orders::side::OneSide;
 use queue::Queue;
 use terms::trade::Trade;
 
@@ -13,17 +14,10 @@ pub(crate) fn traded_lots(trades: &[Trade]) -> u128
     trades.iter().map(|t| u128::from(t.lots)).sum()
 }
 
-// The lots of an order that rests.
-fn lots_at<E: Sided>(e: &E) -> u32
-    ensures { result ≡ (E.Sided.plain e.now).lots }
-{
-    e.order().lots
-}
-
 // The lots that rest in a queue, from the first order to the last.
-pub(crate) fn resting_lots<E: Sided, Q: Queue<E>>(q: &Q) -> u128
+pub(crate) fn resting_lots<S: OneSide, Q: Queue<SideOrder<S>>>(q: &Q) -> u128
     ensures small { result < 2 ^ 96 }
-    ensures lots { Q.Queue.lawful q.now → result ≡ resting_lots (map E.Sided.plain (Q.Queue.held q.now).elements) }
+    ensures lots { Q.Queue.lawful q.now → result ≡ resting_lots (map (λ o. o.0) (Q.Queue.held q.now).elements) }
 {
     let mut sum = 0;
     let mut next = q.first();
@@ -31,7 +25,7 @@ pub(crate) fn resting_lots<E: Sided, Q: Queue<E>>(q: &Q) -> u128
         let Some(e) = next else {
             break;
         };
-        sum += u128::from(lots_at(&e));
+        sum += u128::from(e.0.lots);
         next = q.first_after(&e);
     }
     sum

@@ -8,7 +8,8 @@ ghost use Rattle.rules.specs.Opening.{fit};
 ghost use Rattle.rules.specs.Checks.{full, full_without, holds, leg_lots, lots_under, without};
 
 use crate::sides::Sides;
-use orders::Sided;
+use orders::order::SideOrder;
+use orders::side::OneSide;
 use queue::Queue;
 use terms::limits::CAPACITY_MAX;
 use terms::side::Side;
@@ -21,8 +22,8 @@ fn can_open(count: usize, capacity: usize) -> bool
 }
 
 // Whether a book may be opened on this queue: it is empty, and has 1 to 1,024 places. It is lawful then.
-pub(crate) fn is_fit<E: Sided, Q: Queue<E>>(q: &Q) -> bool
-    ensures fits { result ≡ fit (map_held E.Sided.plain (Q.Queue.held q.now)) }
+pub(crate) fn is_fit<S: OneSide, Q: Queue<SideOrder<S>>>(q: &Q) -> bool
+    ensures fits { result ≡ fit (map_held (λ o. o.0) (Q.Queue.held q.now)) }
     ensures lawful { result ≡ true → Q.Queue.lawful q.now }
 {
     can_open(q.count(), q.capacity())

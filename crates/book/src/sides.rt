@@ -8,8 +8,8 @@ ghost use Rattle.rules.specs.Book.{other, resting_lots};
 ghost use Rattle.rules.specs.Opening.{emptied};
 
 use crate::lots::resting_lots;
-use orders::Sided;
-use orders::order::{BuyOrder, Order, SellOrder};
+use orders::order::{BuyOrder, Order, SellOrder, SideOrder};
+use orders::side::OneSide;
 use queue::Queue;
 use queue::through::clear;
 use terms::refusal::Refusal;
@@ -98,10 +98,10 @@ pub struct TwoQueues<'a, B, S> {
 }
 
 // An order of either side as a plain one.
-fn plain<E: Sided>(found: Option<E>) -> Option<Order>
-    ensures { result ≡ map_some E.Sided.plain found }
+fn plain<S: OneSide>(found: Option<SideOrder<S>>) -> Option<Order>
+    ensures { result ≡ map_some (λ o. o.0) found }
 {
-    found.map(|e| e.order())
+    found.map(|e| e.0)
 }
 
 ghost use Rattle.queue.specs.Carries.{map_some};
@@ -163,8 +163,8 @@ impl<'a, B: Queue<BuyOrder>, S: Queue<SellOrder>> Sides for TwoQueues<'a, B, S> 
 
     fn put(&mut self, side: Side, order: Order) -> Result<(), Refusal> {
         match side {
-            Side::Buy => self.buys.put(BuyOrder(order)),
-            Side::Sell => self.sells.put(SellOrder(order)),
+            Side::Buy => self.buys.put(BuyOrder::new(order)),
+            Side::Sell => self.sells.put(SellOrder::new(order)),
         }
     }
 

@@ -8,7 +8,6 @@ ghost use Rattle.day_demo.specs.Shown.{Shown};
 
 use book::phase::{Book, Closed, Waiting};
 use book::sides::{Sides, TwoQueues};
-use orders::Sided;
 use orders::order::{BuyOrder, SellOrder};
 use price_range::PriceRange;
 use queue::Queue;

@@ -6,7 +6,7 @@ use sorted_queue::SortedQueue;
 use std::process::Abort;
 
 pub fn buy(number: u32, price: u32, lots: u32, turn: u32) -> BuyOrder {
-    BuyOrder(Order {
+    BuyOrder::new(Order {
         number,
         member: 1,
         price,
@@ -119,17 +119,17 @@ fn ranks(rt: HostRuntime) {
     let high = buy(2, 101, 1, 2).0;
     let late = buy(3, 100, 1, 3).0;
     assert!(rt;
-        BuyOrder(high).ranks_before(&BuyOrder(low)) && !BuyOrder(low).ranks_before(&BuyOrder(high))
+        BuyOrder::new(high).ranks_before(&BuyOrder::new(low)) && !BuyOrder::new(low).ranks_before(&BuyOrder::new(high))
     );
     assert!(rt;
-        SellOrder(low).ranks_before(&SellOrder(high))
-            && !SellOrder(high).ranks_before(&SellOrder(low))
+        SellOrder::new(low).ranks_before(&SellOrder::new(high))
+            && !SellOrder::new(high).ranks_before(&SellOrder::new(low))
     );
     assert!(rt;
-        BuyOrder(low).ranks_before(&BuyOrder(late)) && !BuyOrder(late).ranks_before(&BuyOrder(low))
+        BuyOrder::new(low).ranks_before(&BuyOrder::new(late)) && !BuyOrder::new(late).ranks_before(&BuyOrder::new(low))
     );
     assert!(rt;
-        SellOrder(low).ranks_before(&SellOrder(late))
-            && !SellOrder(low).ranks_before(&SellOrder(low))
+        SellOrder::new(low).ranks_before(&SellOrder::new(late))
+            && !SellOrder::new(low).ranks_before(&SellOrder::new(low))
     );
 }

@@ -7,7 +7,7 @@ use Rattle.book.proofs.side.is_fit.Goals as goal
 pub returns : goal.returns
 returns g c =
     let held = g.Q.Queue.held c.args.q.now in
-    let long = c.count.ensures.counts ∙ sym (map-length g.E.Sided.plain held.elements) in
+    let long = c.count.ensures.counts ∙ sym (map-length (λ o. o.0) held.elements) in
     record {
       fits = c.can_open.ensures ∙ (λ i. eqb (long i) 0 && within 1 1024 (c.capacity.ensures.holds i));
       lawful = λ t.

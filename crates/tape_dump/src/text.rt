@@ -1,8 +1,7 @@
 // The lines that are printed for a tape.
-ghost use Rattle.std.specs.Prelude.{◌≡◌, ◌∷◌, ◌++◌, Some, string_bytes, OnOk};
+ghost use Rattle.std.specs.Prelude.{◌≡◌, ◌++◌, Some, string_bytes, OnOk};
 ghost use Rattle.tape.specs.Lines.{line, spaced};
-ghost use Rattle.terms.specs.Messages.{letter_for, numbers_for};
-ghost use Rattle.terms.specs.Values.{letter_byte};
+ghost use Rattle.terms.specs.Messages.{numbers_for};
 ghost use Rattle.tape_dump.specs.Dumps.{setup_words, message_words, stop_words, count_words};
 
 use std::alloc::AllocError;
@@ -26,15 +25,14 @@ impl fmt::Display for Spaced<'_> {
     }
 }
 
-// The letter of a message, and the numbers of its body.
+// The numbers of a message's body, a space before each.
 #[derive(Clone, Copy)]
-struct Words<'a>(&'a Message);
+struct Body<'a>(&'a Message);
 
-impl fmt::Display for Words<'_> {
-    ghost output = { λ words. Some (letter_byte (letter_for words.0.now) ∷ spaced (numbers_for words.0.now)) };
+impl fmt::Display for Body<'_> {
+    ghost output = { λ body. Some (spaced (numbers_for body.0.now)) };
 
     fn fmt<W: fmt::Write>(&self, f: &mut fmt::Formatter<W>) -> fmt::Result {
-        write!(f, "{}", self.0.letter())?;
         match *self.0 {
             Message::Buy(o)
             | Message::Sell(o)
@@ -59,7 +57,7 @@ pub fn push_setup(text: &mut String, setup: &Setup) -> Result<(), AllocError>
 pub fn push_message(text: &mut String, place: usize, message: &Message) -> Result<(), AllocError>
     ensures { OnOk result (string_bytes text.new ≡ string_bytes text.old ++ line (message_words (record { place = place; message = message.now }))) }
 {
-    writeln!(text, "{place} {}", Words(message))
+    writeln!(text, "{place} {}{}", message.letter(), Body(message))
 }
 
 // The line of the refusal that ends the reading.

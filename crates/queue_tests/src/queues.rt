@@ -119,14 +119,16 @@ fn ranks(rt: HostRuntime) {
     let high = buy(2, 101, 1, 2).0;
     let late = buy(3, 100, 1, 3).0;
     assert!(rt;
-        BuyOrder::new(high).ranks_before(&BuyOrder::new(low)) && !BuyOrder::new(low).ranks_before(&BuyOrder::new(high))
+        BuyOrder::new(high).ranks_before(&BuyOrder::new(low))
+            && !BuyOrder::new(low).ranks_before(&BuyOrder::new(high))
     );
     assert!(rt;
         SellOrder::new(low).ranks_before(&SellOrder::new(high))
             && !SellOrder::new(high).ranks_before(&SellOrder::new(low))
     );
     assert!(rt;
-        BuyOrder::new(low).ranks_before(&BuyOrder::new(late)) && !BuyOrder::new(late).ranks_before(&BuyOrder::new(low))
+        BuyOrder::new(low).ranks_before(&BuyOrder::new(late))
+            && !BuyOrder::new(late).ranks_before(&BuyOrder::new(low))
     );
     assert!(rt;
         SellOrder::new(low).ranks_before(&SellOrder::new(late))

@@ -25,6 +25,7 @@ pub(crate) fn resting_lots<E: Sided, Q: Queue<E>>(q: &Q) -> u128
     ensures small { result < 2 ^ 96 }
     ensures lots { Q.Queue.lawful q.now → result ≡ resting_lots (map E.Sided.plain (Q.Queue.held q.now).elements) }
 {
+    // Kept: tried as a chain over `successors`, and the proof of its bound and its sum didn't close.
     let mut sum = 0;
     let mut next = q.first();
     for _ in 0..q.count() {

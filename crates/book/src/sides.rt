@@ -105,7 +105,7 @@ fn plain<E: Sided>(found: Option<E>) -> Option<Order>
 }
 
 ghost use Rattle.queue.specs.Carries.{map_some};
-ghost use Rattle.book.specs.Sided.{side_lawful, side_held};
+ghost use Rattle.book.specs.BySide.{side_lawful, side_held};
 ghost use Rattle.std.proofs.Common.{rules};
 
 impl<'a, B: Queue<BuyOrder>, S: Queue<SellOrder>> Sides for TwoQueues<'a, B, S> {

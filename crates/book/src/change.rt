@@ -103,7 +103,8 @@ impl Book<Trading> {
 }
 
 impl Book<Halted> {
-    // Changes price and lots of what rests of an order, which may not rise. In a halt it meets nothing.
+    // Changes price and lots of what rests of an order, which may not rise. It meets nothing.
+    // Kept beside the change while trading: one function for both would ask a halt for a table and a range.
     pub fn change<D: Sides>(
         &mut self,
         change: OrderChange,

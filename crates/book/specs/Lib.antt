@@ -1,5 +1,5 @@
 pub mod Matching
-pub mod Sided
+pub mod BySide
 pub mod Books
 pub mod Changes
 pub mod Dispatch

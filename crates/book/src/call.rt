@@ -1,22 +1,24 @@
 // Every call on every phase: what the phase does not allow is refused.
-ghost use Rattle.std.specs.Prelude.{◌≡◌, true, [], length, OnErr};
+ghost use Rattle.std.specs.Prelude.{◌≡◌, true, List, [], length, IsOk, OnErr};
 ghost use Rattle.rules.specs.Book.{Answers};
 ghost use Rattle.rules.specs.ByRule.{ByRule, event_of};
 ghost use Rattle.rules.specs.Calls as calls;
 ghost use Rattle.rules.specs.Keeps.{Keeps};
-ghost use Rattle.book.specs.Books.{waiting_book, trading_book, halted_book, closed_book, outcome_of};
-ghost use Rattle.book.specs.Sided.{side_held};
+ghost use Rattle.terms.specs.declared.trade.Trade.{Trade as AnyTrade};
+ghost use Rattle.book.specs.Books.{book_in, waiting_book, trading_book, halted_book, closed_book, outcome_of};
+ghost use Rattle.book.specs.BySide.{side_held};
 ghost use Rattle.terms.specs.declared.side.Side.{Side as AnySide};
 ghost use Rattle.book.specs.Dispatch.{call_of, message_of, replied, reply_to, phase_book, stays};
 
-use crate::phase::{Book, Closed, Halted, Trading, Waiting};
+use crate::phase::{Book, Closed, Halted, MayEnd, Trading, Waiting};
 use crate::sides::Sides;
 use orders::order::{BuyOrder, SellOrder};
 use price_range::PriceRange;
 use queue::Queue;
 use terms::message::Message;
 use terms::refusal::Refusal;
-use terms::side::{Side, TimeInForce};
+use terms::side::Side::{Buy, Sell};
+use terms::side::TimeInForce::{Day, Immediate};
 use terms::trade::{Answer, Trade};
 
 // What can be asked of a book.
@@ -33,8 +35,8 @@ pub enum Reply {
     Resting(u128, u128),
 }
 
-// What a halt and a resumption answer.
-const NOTHING: Answer = Answer {
+// What a call answers that has nothing to count.
+pub(crate) const NOTHING: Answer = Answer {
     number: 0,
     traded: 0,
     resting: 0,
@@ -58,6 +60,19 @@ fn as_reply(res: Result<Answer, Refusal>) -> Result<Reply, Refusal>
     res.map(Reply::Answer)
 }
 
+impl<P: MayEnd> Book<P> {
+    // The end of the day as a reply.
+    fn ended<D: Sides>(self, sides: &mut D) -> (Phase, Result<Reply, Refusal>)
+        ensures answers { IsOk result.1 }
+        ensures keeps { (s : AnySide) → D.lawful sides.old s → D.lawful sides.new s }
+        ensures same { D.same_queues sides.old sides.new }
+        ensures by_rule { ((s : AnySide) → D.lawful sides.old s) → (range : Answers) (table : List AnyTrade) → ByRule calls.end (book_in P.phase P.last self (D.held sides.old) range) (replied result.1) table table (phase_book result.0 (D.held sides.new) range) }
+    {
+        let (closed, answer) = self.end(sides);
+        (Phase::Closed(closed), Ok(Reply::Answer(answer)))
+    }
+}
+
 impl Book<Waiting> {
     // Any message on this phase.
     fn message<D: Sides, R: PriceRange>(
@@ -77,10 +92,7 @@ impl Book<Waiting> {
                 Ok((trading, answer)) => (Phase::Trading(trading), Ok(Reply::Answer(answer))),
                 Err((waiting, refusal)) => (Phase::Waiting(waiting), Err(refusal)),
             },
-            Message::End => {
-                let (closed, answer) = self.end(sides);
-                (Phase::Closed(closed), Ok(Reply::Answer(answer)))
-            }
+            Message::End => self.ended(sides),
             _ => (Phase::Waiting(self), Err(Refusal::WrongPhase)),
         }
     }
@@ -101,37 +113,11 @@ impl Book<Trading> {
         ensures by_rule { ((s : AnySide) → D.lawful sides.old s) → stays message ≡ true → ByRule (message_of message (length trades.old)) (trading_book self.old (D.held sides.old) (R.PriceRange.answers range.old)) (outcome_of result) trades.old trades.new (trading_book self.new (D.held sides.new) (R.PriceRange.answers range.new)) }
     {
         match message {
-            Message::Buy(entry) => self.order(
-                Side::Buy,
-                TimeInForce::Day,
-                entry,
-                sides,
-                range,
-                trades,
-            ),
-            Message::Sell(entry) => self.order(
-                Side::Sell,
-                TimeInForce::Day,
-                entry,
-                sides,
-                range,
-                trades,
-            ),
-            Message::ImmediateBuy(entry) => self.order(
-                Side::Buy,
-                TimeInForce::Immediate,
-                entry,
-                sides,
-                range,
-                trades,
-            ),
+            Message::Buy(entry) => self.order(Buy, Day, entry, sides, range, trades),
+            Message::Sell(entry) => self.order(Sell, Day, entry, sides, range, trades),
+            Message::ImmediateBuy(entry) => self.order(Buy, Immediate, entry, sides, range, trades),
             Message::ImmediateSell(entry) => self.order(
-                Side::Sell,
-                TimeInForce::Immediate,
-                entry,
-                sides,
-                range,
-                trades,
+                Sell, Immediate, entry, sides, range, trades,
             ),
             Message::Change(change) => self.change(change, sides, range, trades),
             Message::Cancel(cancel) => self.cancel(cancel, sides),
@@ -140,9 +126,7 @@ impl Book<Trading> {
             Message::Halt | Message::Resume | Message::End => Err(Refusal::WrongPhase),
         }
     }
-}
 
-impl Book<Trading> {
     // Any message on this phase.
     fn message<D: Sides, R: PriceRange>(
         mut self,
@@ -158,10 +142,7 @@ impl Book<Trading> {
     {
         match message {
             Message::Halt => (Phase::Halted(self.halt()), Ok(Reply::Answer(NOTHING))),
-            Message::End => {
-                let (closed, answer) = self.end(sides);
-                (Phase::Closed(closed), Ok(Reply::Answer(answer)))
-            }
+            Message::End => self.ended(sides),
             Message::Resume => (Phase::Trading(self), Err(Refusal::WrongPhase)),
             _ => {
                 let result = self.trade(message, sides, range, trades);
@@ -195,10 +176,7 @@ impl Book<Halted> {
                 (Phase::Halted(self), as_reply(result))
             }
             Message::Resume => (Phase::Waiting(self.resume()), Ok(Reply::Answer(NOTHING))),
-            Message::End => {
-                let (closed, answer) = self.end(sides);
-                (Phase::Closed(closed), Ok(Reply::Answer(answer)))
-            }
+            Message::End => self.ended(sides),
             _ => (Phase::Halted(self), Err(Refusal::WrongPhase)),
         }
     }
@@ -260,7 +238,7 @@ impl Phase {
         match call {
             Call::Message(message) => self.message(message, sides, range, trades),
             Call::Resting => {
-                let (buying, selling) = (sides.lots(Side::Buy), sides.lots(Side::Sell));
+                let (buying, selling) = (sides.lots(Buy), sides.lots(Sell));
                 (self, Ok(Reply::Resting(buying, selling)))
             }
         }

@@ -10,6 +10,7 @@ ghost use Rattle.rules.specs.Checks.{allows};
 ghost use Rattle.rules.specs.Keeps.{Keeps};
 ghost use Rattle.book.specs.Books.{book_of, book_in, outcome_of};
 
+use crate::call::NOTHING;
 use crate::checks::{check_member, refuse_if};
 use crate::find::find_order;
 use crate::phase::{Book, MayCancel};
@@ -31,10 +32,8 @@ fn cancel_order<D: Sides>(cancel: OrderCancel, sides: &mut D) -> Result<Answer, 
     let _ = sides.take(found.side, cancel.order);
     Ok(Answer {
         number: cancel.order,
-        traded: 0,
-        resting: 0,
         cancelled: u128::from(found.order.lots),
-        trades: 0,
+        ..NOTHING
     })
 }
 

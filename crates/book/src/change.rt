@@ -66,7 +66,7 @@ fn lower<D: Sides>(change: &OrderChange, found: &Found, sides: &mut D) -> Answer
 }
 
 impl Book<Trading> {
-    // Changes price and lots of what rests of an order. It keeps its place, or takes a new turn and meets as an order does.
+    // Changes price and lots of what rests of an order. It keeps its place, or takes a new turn and meets like an order.
     pub fn change<D: Sides, R: PriceRange>(
         &mut self,
         change: OrderChange,
@@ -103,7 +103,8 @@ impl Book<Trading> {
 }
 
 impl Book<Halted> {
-    // Changes price and lots of what rests of an order, which may not rise. In a halt it meets nothing.
+    // Changes price and lots of what rests of an order, which may not rise. It meets nothing.
+    // Kept beside the change while trading: one function for both would ask a halt for a table and a range.
     pub fn change<D: Sides>(
         &mut self,
         change: OrderChange,

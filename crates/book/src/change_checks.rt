@@ -42,11 +42,10 @@ fn is_better(side: Side, was: u32, price: u32) -> bool
 fn is_out_of_reach(side: Side, price: u32, band: Option<Band>) -> bool
     ensures { result ≡ out_of_reach side price band }
 {
-    match (band, side) {
-        (None, _) => true,
-        (Some(band), Side::Buy) => price > band.high,
-        (Some(band), Side::Sell) => price < band.low,
-    }
+    band.is_none_or(|band| match side {
+        Side::Buy => price > band.high,
+        Side::Sell => price < band.low,
+    })
 }
 
 // In a halt neither price nor lots may rise; while trading a better price is within reach.

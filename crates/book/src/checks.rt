@@ -24,7 +24,7 @@ pub(crate) fn refuse_if(test: bool, refusal: Refusal) -> Result<(), Refusal>
 pub(crate) fn check_member(member: u32) -> Result<(), Refusal>
     ensures { result ≡ refused_if Refusal.BadMember (bad_member member) }
 {
-    let allowed = 1 <= member && member <= MEMBER_MAX;
+    let allowed = (1..=MEMBER_MAX).contains(&member);
     refuse_if(!allowed, Refusal::BadMember)
 }
 
@@ -33,7 +33,7 @@ pub(crate) fn check_price(terms: &Instrument, price: u32) -> Result<(), Refusal>
     ensures { result ≡ refused_if Refusal.BadPrice (bad_price terms.now price) }
 {
     let on_tick = terms.tick != 0 && price % terms.tick == 0;
-    let allowed = 1 <= price && price <= PRICE_MAX && on_tick;
+    let allowed = (1..=PRICE_MAX).contains(&price) && on_tick;
     refuse_if(!allowed, Refusal::BadPrice)
 }
 
@@ -41,7 +41,7 @@ pub(crate) fn check_price(terms: &Instrument, price: u32) -> Result<(), Refusal>
 pub(crate) fn check_lots(lots: u32) -> Result<(), Refusal>
     ensures { result ≡ refused_if Refusal.BadLots (bad_lots lots) }
 {
-    let allowed = 1 <= lots && lots <= LOTS_MAX;
+    let allowed = (1..=LOTS_MAX).contains(&lots);
     refuse_if(!allowed, Refusal::BadLots)
 }
 
@@ -49,7 +49,7 @@ pub(crate) fn check_lots(lots: u32) -> Result<(), Refusal>
 fn is_outside(span: &Span, n: u32) -> bool
     ensures { result ≡ outside span.now n }
 {
-    !(span.least <= n && n <= span.greatest)
+    !(span.least..=span.greatest).contains(&n)
 }
 
 // A bid is below its ask, by a spread of the instrument.

@@ -11,8 +11,9 @@ ghost use Rattle.rules.specs.Laws.{Lawful};
 ghost use Rattle.rules.specs.Opening.{opening_refusal, nothing, ended, emptied};
 ghost use Rattle.rules.specs.Rules.{Day};
 ghost use Rattle.book.specs.Books.{book_in, waiting_book, trading_book, halted_book, closed_book};
-ghost use Rattle.book.specs.Sided.{plain_buys, plain_sells, side_held};
+ghost use Rattle.book.specs.BySide.{plain_buys, plain_sells, side_held};
 
+use crate::call::NOTHING;
 use crate::phase::{Book, Closed, DayPhase, Halted, MayEnd, Trading, Waiting};
 use crate::side::is_fit;
 use crate::sides::Sides;
@@ -92,11 +93,8 @@ fn end_day<D: Sides>(sides: &mut D) -> Answer
     sides.clear(Side::Buy);
     sides.clear(Side::Sell);
     Answer {
-        number: 0,
-        traded: 0,
-        resting: 0,
         cancelled,
-        trades: 0,
+        ..NOTHING
     }
 }
 

@@ -19,6 +19,7 @@ pub(crate) fn resting_lots<S: OneSide, Q: Queue<SideOrder<S>>>(q: &Q) -> u128
     ensures small { result < 2 ^ 96 }
     ensures lots { Q.Queue.lawful q.now → result ≡ resting_lots (map (λ o. o.0) (Q.Queue.held q.now).elements) }
 {
+    // Kept: tried as a chain over `successors`, and the proof of its bound and its sum didn't close.
     let mut sum = 0;
     let mut next = q.first();
     for _ in 0..q.count() {

@@ -34,23 +34,17 @@ pub(crate) struct Met {
 fn can_meet(band: Option<Band>, side: Side, limit: u32, price: u32) -> bool
     ensures { result ≡ can_meet band side limit price }
 {
-    let Some(band) = band else {
-        return false;
-    };
-    match side {
+    band.is_some_and(|band| match side {
         Side::Buy => band.low.max(price) <= band.high.min(limit),
         Side::Sell => band.low.max(limit) <= band.high.min(price),
-    }
+    })
 }
 
 // The price of the band that is nearest to this one.
 fn nearest(band: Option<Band>, price: u32) -> u32
     ensures { result ≡ nearest_of band price }
 {
-    match band {
-        Some(band) => band.low.max(band.high.min(price)),
-        None => price,
-    }
+    band.map_or(price, |band| band.low.max(band.high.min(price)))
 }
 
 // The limit of the one that rested; of two that did, of the one with the lower turn.

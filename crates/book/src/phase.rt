@@ -1,5 +1,5 @@
 // A book, and the phases of its day: moved values of plain numbers.
-ghost use Rattle.std.specs.Prelude.{◌≡◌, true, Some, Option as AnyOption};
+ghost use Rattle.std.specs.Prelude.{◌≡◌, true, Some, Option as AnyOption, refl};
 ghost use Rattle.terms.specs.declared.message.OrderCancel.{OrderCancel as AnyCancel};
 ghost use Rattle.terms.specs.declared.message.Quoted.{Quoted as AnyQuoted};
 ghost use Rattle.rules.specs.Book.{Phase as AnyPhase, waiting, trading, halted, closed};
@@ -101,8 +101,6 @@ impl DayPhase for Closed {
         self.last
     }
 }
-
-ghost use Rattle.std.specs.Prelude.{refl};
 
 impl MayEnd for Waiting {
     ghost may_end = { refl };

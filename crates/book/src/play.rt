@@ -12,7 +12,7 @@ use crate::sides::Sides;
 use price_range::PriceRange;
 use terms::trade::Trade;
 
-// Plays all calls on a book. A refused one changes nothing, and the next follows. The trades of the last ones stay in the table.
+// Plays all calls on a book. A refused one changes nothing, and the next follows. The last trades stay in the table.
 pub fn play<D: Sides, R: PriceRange>(
     phase: Phase,
     calls: &[Call],

@@ -40,23 +40,6 @@ fn ask_of(quote: Option<Quoted>) -> Option<u32>
     quote.map(|q| q.ask)
 }
 
-// Two turns are left, each side has a place for its leg, and the turns are free; the old legs count as gone.
-fn check_legs<D: Sides>(next: u32, old: Option<Quoted>, sides: &D) -> Result<(), Refusal>
-    ensures answers { ((s : AnySide) → D.lawful sides.now s) → result ≡ answer (first_of (leg_checks next old (D.held sides.now Side.Buy) (D.held sides.now Side.Sell))) }
-    ensures turns { OnOk result (next + 2 ≤ 1000001) }
-{
-    check_turns(next, 2)?;
-    let (bid, ask) = (bid_of(old), ask_of(old));
-    refuse_if(
-        is_full_without(sides, Side::Buy, bid) || is_full_without(sides, Side::Sell, ask),
-        Refusal::QueueFull,
-    )?;
-    refuse_if(
-        sides.is_taken(Side::Buy, next, bid) || sides.is_taken(Side::Sell, next + 1, ask),
-        Refusal::AlreadyHeld,
-    )
-}
-
 // A leg of a quote, an order of the market maker.
 fn leg(number: u32, price: u32, lots: u32) -> Order
     ensures { result ≡ record { number = number; member = 0; price = price; lots = lots; turn = number } }
@@ -71,6 +54,25 @@ fn leg(number: u32, price: u32, lots: u32) -> Order
 }
 
 impl<P: DayPhase> Book<P> {
+    // Two turns are left, each side has a place for its leg, and the turns are free; the old legs count as gone.
+    fn check_legs<D: Sides>(&self, sides: &D) -> Result<(), Refusal>
+        ensures answers { ((s : AnySide) → D.lawful sides.now s) → result ≡ answer (first_of (leg_checks self.now.next (P.last self.now.phase) (D.held sides.now Side.Buy) (D.held sides.now Side.Sell))) }
+        ensures turns { OnOk result (self.now.next + 2 ≤ 1000001) }
+    {
+        check_turns(self.next, 2)?;
+        let last = self.phase.last();
+        let (bid, ask) = (bid_of(last), ask_of(last));
+        refuse_if(
+            is_full_without(sides, Side::Buy, bid) || is_full_without(sides, Side::Sell, ask),
+            Refusal::QueueFull,
+        )?;
+        refuse_if(
+            sides.is_taken(Side::Buy, self.next, bid)
+                || sides.is_taken(Side::Sell, self.next + 1, ask),
+            Refusal::AlreadyHeld,
+        )
+    }
+
     // The tests of a quote, in their order.
     fn check_quote<D: Sides>(
         &self,
@@ -89,7 +91,7 @@ impl<P: DayPhase> Book<P> {
         check_spread(&self.terms, entry)?;
         check_quote_lots(&self.terms, entry)?;
         check_table(sides, places)?;
-        check_legs(self.next, self.phase.last(), sides)
+        self.check_legs(sides)
     }
 
     // Places a quote: the old legs go, the range is told, both new legs rest, and what can meet does. Says the new quote.
@@ -171,7 +173,7 @@ impl Book<Trading> {
             holds_leg(sides, Side::Buy, bid_of(last)) && holds_leg(sides, Side::Sell, ask_of(last)),
             Refusal::QuoteRests,
         )?;
-        check_legs(self.next, last, sides)
+        self.check_legs(sides)
     }
 
     // Enters a quote in the place of the last one.

@@ -5,7 +5,7 @@ ghost use Rattle.rules.specs.ByRule.{ByRule, event_of};
 ghost use Rattle.rules.specs.Calls as calls;
 ghost use Rattle.rules.specs.Keeps.{Keeps};
 ghost use Rattle.book.specs.Books.{book_in};
-ghost use Rattle.book.specs.Sided.{plain_buys, plain_sells, side_held};
+ghost use Rattle.book.specs.BySide.{plain_buys, plain_sells, side_held};
 
 use crate::lots::resting_lots;
 use crate::phase::{Book, DayPhase};

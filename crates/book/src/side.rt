@@ -18,7 +18,7 @@ use terms::side::Side;
 fn can_open(count: usize, capacity: usize) -> bool
     ensures { result ≡ (count == 0 && within 1 1024 capacity) }
 {
-    count == 0 && 1 <= capacity && capacity <= CAPACITY_MAX
+    count == 0 && (1..=CAPACITY_MAX).contains(&capacity)
 }
 
 // Whether a book may be opened on this queue: it is empty, and has 1 to 1,024 places. It is lawful then.

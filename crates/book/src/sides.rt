@@ -1,11 +1,14 @@
 // The two sides of a book as one value, whose orders are plain.
 ghost use Rattle.std.specs.Prelude.{◌≡◌, ◌^◌, ◌<◌, length, IfNone, OnErr};
+ghost use Rattle.std.proofs.Common.{rules};
 ghost use Rattle.terms.specs.declared.side.Side.{Side as AnySide};
+ghost use Rattle.queue.specs.Carries.{map_some};
 ghost use Rattle.queue.specs.Held.{Held, Sound, head, any, takes, numbered, barred, uncut, answer, after_put, after_cut, after_take};
 ghost use Rattle.orders.specs.Priority.{rank_of};
 ghost use Rattle.orders.specs.declared.order.Order.{Order as AnyOrder};
 ghost use Rattle.rules.specs.Book.{other, resting_lots};
 ghost use Rattle.rules.specs.Opening.{emptied};
+ghost use Rattle.book.specs.BySide.{side_lawful, side_held};
 
 use crate::lots::resting_lots;
 use orders::order::{BuyOrder, Order, SellOrder, SideOrder};
@@ -103,10 +106,6 @@ fn plain<S: OneSide>(found: Option<SideOrder<S>>) -> Option<Order>
 {
     found.map(|e| e.0)
 }
-
-ghost use Rattle.queue.specs.Carries.{map_some};
-ghost use Rattle.book.specs.Sided.{side_lawful, side_held};
-ghost use Rattle.std.proofs.Common.{rules};
 
 impl<'a, B: Queue<BuyOrder>, S: Queue<SellOrder>> Sides for TwoQueues<'a, B, S> {
     ghost lawful = { λ d. side_lawful (B.Queue.lawful d.buys.now) (S.Queue.lawful d.sells.now) };

@@ -3,7 +3,7 @@ ghost use Rattle.std.specs.Prelude.{IfOk};
 ghost use Rattle.terms.specs.declared.side.Side.{Side as AnySide};
 ghost use Rattle.rules.specs.Book.{Answers};
 ghost use Rattle.book.specs.Books.{waiting_book, closed_book};
-ghost use Rattle.book.specs.Sided.{side_held};
+ghost use Rattle.book.specs.BySide.{side_held};
 ghost use Rattle.day_demo.specs.Shown.{Shown};
 
 use book::phase::{Book, Closed, Waiting};

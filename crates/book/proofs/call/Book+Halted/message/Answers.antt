@@ -9,7 +9,8 @@ pub returns-in-Resume-clause-by_rule : goal.returns-in-Resume-clause-by_rule
 returns-in-Resume-clause-by_rule g c l = called_by (ap (λ m. message_of m (length c.args.trades.now)) c.in-Resume.is) refl (on_table c.args.trades.now (c.resume.ensures.by_rule (g.D.Sides.held c.args.sides.now) (g.R.PriceRange.answers c.args.range.now)))
 
 pub returns-in-End-clause-by_rule : goal.returns-in-End-clause-by_rule
-returns-in-End-clause-by_rule g c l = called_by (ap (λ m. message_of m (length c.args.trades.now)) c.in-End.is) refl (on_table c.args.trades.now (c.end.ensures.by_rule l (g.R.PriceRange.answers c.args.range.now)))
+returns-in-End-clause-by_rule g c l =
+    called_by (ap (λ m. message_of m (length c.args.trades.now)) c.in-End.is) refl (c.ended.ensures.by_rule l (g.R.PriceRange.answers c.args.range.now) c.args.trades.now)
 
 pub returns-in-Change : goal.returns-in-Change
 returns-in-Change g c =

@@ -7,4 +7,5 @@ pub returns-in-Halt-clause-by_rule : goal.returns-in-Halt-clause-by_rule
 returns-in-Halt-clause-by_rule g c l = called_by (ap (λ m. message_of m (length c.args.trades.now)) c.in-Halt.is) refl (on_table c.args.trades.now (c.halt.ensures.by_rule (g.D.Sides.held c.args.sides.now) (g.R.PriceRange.answers c.args.range.now)))
 
 pub returns-in-End-clause-by_rule : goal.returns-in-End-clause-by_rule
-returns-in-End-clause-by_rule g c l = called_by (ap (λ m. message_of m (length c.args.trades.now)) c.in-End.is) refl (on_table c.args.trades.now (c.end.ensures.by_rule l (g.R.PriceRange.answers c.args.range.now)))
+returns-in-End-clause-by_rule g c l =
+    called_by (ap (λ m. message_of m (length c.args.trades.now)) c.in-End.is) refl (c.ended.ensures.by_rule l (g.R.PriceRange.answers c.args.range.now) c.args.trades.now)

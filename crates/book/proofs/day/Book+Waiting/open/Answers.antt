@@ -1,7 +1,7 @@
 use Rattle.std.proofs.Common.{◌≡◌, None, sym, refl}
 use Rattle.rules.proofs.Openings.{opens_a_day}
 use Rattle.rules.specs.Opening.{opening_refusal}
-use Rattle.book.specs.Sided.{plain_buys, plain_sells}
+use Rattle.book.specs.BySide.{plain_buys, plain_sells}
 use Rattle.book.proofs.day.Book+Waiting.open.Goals as goal
 
 pub returns-clause-day : goal.returns-clause-day

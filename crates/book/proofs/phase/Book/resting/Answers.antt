@@ -3,7 +3,7 @@ use Rattle.rules.proofs.Ruled.{keeps_ruled, ruled_accepted}
 use Rattle.rules.specs.Calls as calls
 use Rattle.rules.specs.Rules.{asked}
 use Rattle.book.specs.Books.{book_in}
-use Rattle.book.specs.Sided.{side_held}
+use Rattle.book.specs.BySide.{side_held}
 use Rattle.book.proofs.Allowed.{allowed, resting_allowed}
 use Rattle.book.proofs.phase.Book.resting.Goals as goal
 

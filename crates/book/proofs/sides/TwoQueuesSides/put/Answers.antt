@@ -3,7 +3,7 @@ use Rattle.terms.specs.declared.side.Side.TheVariants.{Buy, Sell}
 use Rattle.queue.specs.Held.{answer, after_put, barred}
 use Rattle.orders.proofs.Sides.{buys_carried, sells_carried}
 use Rattle.orders.specs.Priority.{buy_rank, sell_rank, rank_of}
-use Rattle.book.specs.Sided.{plain_buys, plain_sells}
+use Rattle.book.specs.BySide.{plain_buys, plain_sells}
 use Rattle.book.proofs.Carrying.{put_answer, put_leaves}
 use Rattle.book.proofs.sides.TwoQueuesSides.put.Goals as goal
 

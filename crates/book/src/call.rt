@@ -204,7 +204,7 @@ impl Phase {
         }
     }
 
-    // The buying lots and the selling lots that rest.
+    // The buying lots and the selling lots that rest. It only looks at the two queues.
     pub fn resting<B: Queue<BuyOrder>, S: Queue<SellOrder>>(
         &self,
         buys: &B,

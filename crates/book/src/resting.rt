@@ -20,7 +20,7 @@ fn both_sides<B: Queue<BuyOrder>, S: Queue<SellOrder>>(buys: &B, sells: &S) -> (
 }
 
 impl<P: DayPhase> Book<P> {
-    // The buying lots and the selling lots that rest, in every phase.
+    // The buying lots and the selling lots that rest, in every phase. It only looks at the two queues.
     pub fn resting<B: Queue<BuyOrder>, S: Queue<SellOrder>>(
         &self,
         buys: &B,

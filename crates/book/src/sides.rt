@@ -19,12 +19,14 @@ use terms::refusal::Refusal;
 use terms::side::Side;
 
 // Two sides, each with its orders in priority. A lawful side is what it should be: its promises rest on that, and every
-// call hands it on, leaves the other side as it was, and stays with the same two queues.
+// call hands it on, and leaves the other side as it was.
 pub trait Sides {
     ghost lawful: { Self → AnySide → Type 0 };
 
+    // What rests on a side.
     ghost held: { Self → AnySide → Held AnyOrder };
 
+    // The second value is of the same two queues as the first: so a caller who lent them knows what became of them.
     ghost same_queues: { Self → Self → Type 0 };
 
     // How many orders rest on a side.

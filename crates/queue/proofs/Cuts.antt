@@ -78,4 +78,3 @@ cut_allowed r n o e f h = ap (uncut r n) f ∙ ap (λ t. cond t None (Some BadCu
 -- no more lots are cut than there are, and some are left where not all are cut
 pub cut_within : {E : Type 0} (r : Rank E) (n : ℕ) (e : E) → cuttable r n e ≡ true → n ≤ r.lots e
 cut_within r n e h = leb-true n (r.lots e) (and_parts (leb 1 n) (leb n (r.lots e)) h).1
-

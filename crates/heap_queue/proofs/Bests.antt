@@ -7,7 +7,8 @@ use Rattle.queue.specs.Held.{Sorted, Apart, any, is, insert, first, head}
 use Rattle.queue.specs.Rank.{ExactlyOne}
 use Rattle.queue.specs.Through.{swap}
 use Rattle.heap_queue.specs.Heaps.{ranked}
-use Rattle.heap_queue.proofs.Perms.{insert_front, ranked_perm}
+use Rattle.heap_queue.specs.Laws.{insert_front}
+use Rattle.heap_queue.proofs.Perms.{ranked_perm}
 use Rattle.heap_queue.proofs.Ranks.{sorted_ranked}
 
 -- what `filter` keeps
@@ -47,7 +48,7 @@ module _
     filter_yes q x [] h s = rw h
     filter_yes q x (y ∷ ys) h s =
         go (b x y) refl (q y) refl (filter_yes q x ys h s.1)
-        (λ t. insert_front b transitive x (filter q (y ∷ ys)) (all_filter q (λ z. b x z ≡ true) (y ∷ ys) (t, all_map (λ z u. transitive x y z t u) ys s.0)))
+        (λ t. insert_front b x (filter q (y ∷ ys)) (all_filter q (λ z. b x z ≡ true) (y ∷ ys) (t, all_map (λ z u. transitive x y z t u) ys s.0)))
       where
         go : (u : Bool) → b x y ≡ u → (t : Bool) → q y ≡ t → filter q (insert b x ys) ≡ insert b x (filter q ys) → (b x y ≡ true → insert b x (filter q (y ∷ ys)) ≡ x ∷ filter q (y ∷ ys)) → filter q (insert b x (y ∷ ys)) ≡ insert b x (filter q (y ∷ ys))
         go true u t v r f = (rw (u, h)) ∙ sym (f u)

@@ -1,6 +1,5 @@
 pub mod Bests
 pub mod HeapOrder
-pub mod Meanings
 pub mod Outs
 pub mod Perms
 pub mod Ranks

@@ -1,8 +1,8 @@
 -- `remove`: where it takes out, and what it keeps.
-use Rattle.std.proofs.Common.{◌≡◌, ℕ, suc, ◌<◌, ◌≤◌, Bool, true, false, cond, List, [], ◌∷◌, length, refl, ap, le_of_suc-le-suc, not-suc-le-zero}
+use Rattle.std.proofs.Common.{◌≡◌, ℕ, suc, ◌<◌, Bool, true, false, cond, List, [], ◌∷◌, Some, None, refl, ap}
 use Rattle.std.proofs.lemmas.Bool.{cond_both, or_parts, or_from}
 use Rattle.std.specs.List.{remove as removed, AllByRecursion}
-use Rattle.queue.specs.Held.{Ordered, Sorted, Apart, place, any, is, remove}
+use Rattle.queue.specs.Held.{Ordered, Sorted, Apart, first, place, any, is, remove}
 use Rattle.queue.specs.Rank.{Rank}
 
 module _ {E : Type 0} (p : E → Bool) where
@@ -13,13 +13,13 @@ module _ {E : Type 0} (p : E → Bool) where
       let r = remove-at xs in
       elim (p x) as (λ t. cond t xs (x ∷ remove p xs) ≡ removed (x ∷ xs) (cond t 0 (suc (place p xs)))) [ true ↦ refl | false ↦ ap (λ ys. x ∷ ys) r ]
 
-  pub remove_none : (xs : List E) → length xs ≤ place p xs → remove p xs ≡ xs
-  remove_none [] h = refl
-  remove_none (x ∷ xs) h = go (p x) (remove_none xs) h
+  pub remove_missed : (xs : List E) → first p xs ≡ None → remove p xs ≡ xs
+  remove_missed [] h = refl
+  remove_missed (x ∷ xs) h = go (p x) (remove_missed xs) h
     where
-      go : (b : Bool) → (length xs ≤ place p xs → remove p xs ≡ xs) → suc (length xs) ≤ cond b 0 (suc (place p xs)) → cond b xs (x ∷ remove p xs) ≡ x ∷ xs
-      go true f l = absurd (not-suc-le-zero l)
-      go false f l = ap (λ ys. x ∷ ys) (f (le_of_suc-le-suc l))
+      go : (b : Bool) → (first p xs ≡ None → remove p xs ≡ xs) → cond b (Some x) (first p xs) ≡ None → cond b xs (x ∷ remove p xs) ≡ x ∷ xs
+      go true f l = cc
+      go false f l = ap (λ ys. x ∷ ys) (f l)
 
   pub all_remove : (P : E → Type 0) (xs : List E) → AllByRecursion P xs → AllByRecursion P (remove p xs)
   all_remove P [] h = tt

@@ -48,7 +48,8 @@ pub trait Queue<E: Ranked> {
 
     ghost held: { Self → Held E };
 
-    // How many elements there are. What a lawful queue holds is sound, as `capacity` and `find` say too; an empty one is lawful.
+    // How many elements there are. An empty queue is lawful.
+    // What a lawful one holds is sound, as `capacity` and `find` say too.
     fn count(&self) -> usize
         ensures counts { result ≡ length (held self.now).elements }
         ensures sound { lawful self.now → Sound E.Ranked.rank (held self.now) }

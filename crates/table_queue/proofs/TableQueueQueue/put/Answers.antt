@@ -1,0 +1,78 @@
+use Rattle.std.proofs.Common.{◌≡◌, ◌+◌, true, false, ◌||◌, eqb, take, sym, refl, ap, ◌∙◌, arith}
+use Rattle.std.proofs.lemmas.Bool.{or_left, or_right, eq-eqb}
+use Rattle.queue.proofs.Inserts.{any_or}
+use Rattle.queue.proofs.Puts.{held_same, unbarred, barred-full, barred_held, ordered-insert}
+use Rattle.queue.specs.Held.{insert, answer, unless, any, is, clash}
+use Rattle.table_queue.specs.Arranged.{held_in, Lawful, Arranges}
+use Rattle.table_queue.proofs.Meanings.{held_long, stands, arranged_lawful}
+use Rattle.table_queue.proofs.Perms.{perm_any}
+use Rattle.table_queue.proofs.TableQueueQueue.put.Goals as goal
+use Rattle.table_queue.proofs.TableQueueQueue.put.Goals.{then-lots-eq0-via-then-lots-eq0, then-lots-eq0-via-else-lots-eq0+then-clashes}
+
+pub returns-then-self : goal.returns-then-self
+returns-then-self g c =
+    let r = g.E.Ranked.rank in
+    let a = g.A.Arrangement in
+    let s = c.args.self.now in
+    let h = held_in a.order s.count s.table.now in
+    let long = held_long r a.order a.Kept g.met.A.Arrangement.same s.count s.table.now s.within in
+    let why = barred-full r h c.args.e (omega arith) in
+    record {
+      answers = λ _. ap answer (sym why);
+      leaves = λ _. ap (λ o. unless o h (insert r.before c.args.e h.elements)) (sym why);
+      keeps = λ l. l;
+      refused = refl;
+      table = tt;
+    }
+
+pub returns-then-lots-eq0 : goal.returns-then-lots-eq0
+returns-then-lots-eq0 g c =
+    let r = g.E.Ranked.rank in
+    let a = g.A.Arrangement in
+    let same = g.met.A.Arrangement.same in
+    let s = c.args.self.now in
+    let e = c.args.e in
+    let h = held_in a.order s.count s.table.now in
+    let long = held_long r a.order a.Kept same s.count s.table.now s.within in
+    let t : (eqb (r.lots e) 0 || any (clash r e) h.elements) ≡ true =
+    elim c.then-lots-eq0.branch [
+      | then-lots-eq0-via-then-lots-eq0 w ↦ or_left _ _ (eq-eqb _ _ (sym c.lots.ensures ∙ w.if-lots-eq0.true))
+      | then-lots-eq0-via-else-lots-eq0+then-clashes w ↦
+          or_right _ _ (sym (w.clashes.ensures ∙ ap (any (clash r e)) w.elements.ensures ∙ perm_any (clash r e) (same (take s.count s.table.now))) ∙ w.if-clashes.true)
+    ] in
+    let why = barred_held r h e (omega arith) t in
+    record {
+      answers = λ _. ap answer (sym why);
+      leaves = λ _. ap (λ o. unless o h (insert r.before e h.elements)) (sym why);
+      keeps = λ l. l;
+      refused = refl;
+      table = tt;
+    }
+
+pub returns : goal.returns
+returns g c =
+    let r = g.E.Ranked.rank in
+    let m = g.met.E.Ranked in
+    let a = g.A.Arrangement in
+    let laws = g.met.A.Arrangement in
+    let s = c.args.self.now in
+    let n = s.count in
+    let t = s.table.now in
+    let e = c.args.e in
+    let u = c.insert.new.table in
+    let h = held_in a.order n t in
+    let xs = take n t in
+    let long = held_long r a.order a.Kept laws.same n t s.within in
+    let clear-xs : any (clash r e) xs ≡ false = sym (c.clashes.ensures ∙ ap (any (clash r e)) c.elements.ensures) ∙ c.if-clashes.false in
+    let clear : any (clash r e) h.elements ≡ false = sym (perm_any (clash r e) (laws.same xs)) ∙ clear-xs in
+    let some : r.lots e ≡ 0 → ⊥ = λ z. c.if-lots-eq0.false (c.lots.ensures ∙ z) in
+    let why = unbarred r h e (omega arith) some clear in
+    let after : Lawful r a.order a.Kept n t → Arranges a.order a.Kept (take (n + 1) u) (insert r.before e h.elements) = λ l.
+    c.insert.ensures.arranges (stands r a.order a.Kept laws.same n t l) (any_or (is r.number (r.number e)) (is r.key (r.key e)) xs clear-xs).1 in
+    record {
+      answers = λ _. ap answer (sym why);
+      leaves = λ l. rw why (held_same _ _ _ _ c.insert.auto.table (after l).held);
+      keeps = λ l. arranged_lawful r a.order a.Kept laws.same (n + 1) u (insert r.before e h.elements) (after l) (ordered-insert r m.transitive m.connected h.elements e some clear l.sound.elements);
+      refused = tt;
+      table = c.insert.ensures.puts;
+    }

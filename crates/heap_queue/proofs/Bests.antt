@@ -72,7 +72,7 @@ module _
         go : (s : Bool) → b y z ≡ s → (t : Bool) → b x z ≡ t → head (insert b x (insert b y (z ∷ zs))) ≡ head (insert b x (z ∷ zs))
         go true p true q = simp (p, q, h)
         go true p false q = absurd (both_ways (b x z) q (transitive x y z h p))
-        go false p true q = simp (p, q, h)
+        go false p true q = simp (p, q)
         go false p false q = simp (p, q)
 
     best_of : (x : E) (ys : List E) → Apart key (x ∷ ys) → Some (fold (λ g f. cond (b g f) g f) x ys) ≡ head (ranked b (x ∷ ys))

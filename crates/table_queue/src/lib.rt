@@ -65,6 +65,7 @@ pub trait Arrangement<E: Ranked> {
 }
 
 // The elements stand in the first `count` places, in the arrangement `A`.
+// The table is lent, since no memory is allocated: so the count stands beside it.
 #[derive(Drop)]
 pub struct TableQueue<'a, E: Ranked, A: Arrangement<E>> {
     table: &'a mut [E],

@@ -74,7 +74,7 @@ impl<P: MayEnd> Book<P> {
 }
 
 impl Book<Waiting> {
-    // Any message on this phase.
+    // Any message on this phase. Written for each phase apart, since each allows other messages.
     fn message<D: Sides, R: PriceRange>(
         self,
         message: Message,

@@ -33,7 +33,7 @@ fn check_place<D: Sides>(side: Side, time: TimeInForce, sides: &D, turn: u32) ->
     refuse_if(sides.is_taken(side, turn, None), Refusal::AlreadyHeld)
 }
 
-// The lots of a remainder that rest, and those that are cancelled.
+// The lots of a remainder that rest, and those that are cancelled. Whether it lapses is a flag, as in `enter`.
 fn remainder(lapse: bool, left: u32) -> (u128, u128)
     ensures { result ≡ ((if lapse then 0 else left), (if lapse then left else 0)) }
 {

@@ -107,7 +107,7 @@ pub(crate) fn meet<D: Sides>(
     let opposite = other(incoming.side);
     let mut lots = incoming.lots;
     let mut next = place;
-    // A named form, kept: matching is a loop left by `break` with the remainder, and writes its trades by index.
+    // The form of matching that docs/DECISIONS.md names: left by `break` with the remainder, trades written by index.
     let left = loop {
         if lots == 0 || next >= trades.len() {
             break lots;
@@ -128,6 +128,7 @@ pub(crate) fn meet<D: Sides>(
 }
 
 // Enters an order with all its lots: it meets the other side, and what is left joins its own, unless it lapses.
+// Whether it lapses is one question: an enum of two cases would be this flag under another name.
 pub(crate) fn enter<D: Sides>(
     side: Side,
     order: Order,

@@ -50,13 +50,14 @@ pub struct Trading {
     pub(crate) quote: Quoted,
 }
 
-// Trading was halted; orders rest.
+// Trading was halted; orders rest. It holds what `Trading` does, and is a type of its own so that the build turns away a
+// call that the phase does not allow.
 #[derive(Drop)]
 pub struct Halted {
     pub(crate) last: Quoted,
 }
 
-// The day has ended.
+// The day has ended. A type apart from `Waiting` for that reason too.
 #[derive(Drop)]
 pub struct Closed {
     pub(crate) last: Option<Quoted>,

@@ -33,7 +33,7 @@ fn bid_of(quote: Option<Quoted>) -> Option<u32>
     quote.map(|q| q.bid)
 }
 
-// The number of its ask leg.
+// The number of its ask leg. Apart from the bid's: each is a word of the rules, and one function of a field no shorter.
 fn ask_of(quote: Option<Quoted>) -> Option<u32>
     ensures { result ≡ ask_of quote }
 {

@@ -109,6 +109,7 @@ fn plain<S: OneSide>(found: Option<SideOrder<S>>) -> Option<Order>
     found.map(|e| e.0)
 }
 
+// The one place that picks a queue by its side: the two have types of their own, so each call has two arms.
 impl<'a, B: Queue<BuyOrder>, S: Queue<SellOrder>> Sides for TwoQueues<'a, B, S> {
     ghost lawful = { λ d. side_lawful (B.Queue.lawful d.buys.now) (S.Queue.lawful d.sells.now) };
 

@@ -27,7 +27,9 @@ fn cancel_order<D: Sides>(cancel: OrderCancel, sides: &mut D) -> Result<Answer, 
     ensures cancels { ((s : AnySide) → D.lawful sides.old s) → ((p : AnyPhase) (terms : AnyInstrument) (next : ℕ) (quote : AnyOption AnyQuoted) (range : Answers) → allows p (calls.cancel cancel) ≡ true → ByRule (calls.cancel cancel) (book_of p terms next quote (D.held sides.old) range) (outcome_of result) [] [] (book_of p terms next quote (D.held sides.new) range)) }
 {
     check_member(cancel.member)?;
-    let found = find_order(cancel.order, sides).ok_or(Refusal::NotResting)?;
+    let Some(found) = find_order(cancel.order, sides) else {
+        return Err(Refusal::NotResting);
+    };
     refuse_if(found.order.member != cancel.member, Refusal::NotOwner)?;
     let _ = sides.take(found.side, cancel.order);
     Ok(Answer {

@@ -94,7 +94,9 @@ impl<P: DayPhase> Book<P> {
         ensures sound { OnOk result ((s : AnySide) → D.lawful sides.now s → Sound (rank_of s) (D.held sides.now s)) }
         ensures turns { IfOk result (λ f. keeps_place change.now f.order ≡ false → self.now.next + 1 ≤ 1000001) }
     {
-        let found = find_order(change.order, sides).ok_or(Refusal::NotResting)?;
+        let Some(found) = find_order(change.order, sides) else {
+            return Err(Refusal::NotResting);
+        };
         refuse_if(found.order.member != change.member, Refusal::NotOwner)?;
         check_rise(setting, change, &found)?;
         if !keeps_place(change, &found.order) {

@@ -14,13 +14,18 @@ pub(crate) fn find_order<D: Sides>(number: u32, sides: &D) -> Option<Found>
     ensures finds { ((s : AnySide) → D.lawful sides.now s) → result ≡ found_in (numbered (rank_of Side.Buy) (D.held sides.now Side.Buy) number) (numbered (rank_of Side.Sell) (D.held sides.now Side.Sell) number) }
     ensures sound { (s : AnySide) → D.lawful sides.now s → Sound (rank_of s) (D.held sides.now s) }
 {
-    let buy = sides.find(Side::Buy, number).map(|order| Found {
-        side: Side::Buy,
-        order,
-    });
-    let sell = sides.find(Side::Sell, number).map(|order| Found {
-        side: Side::Sell,
-        order,
-    });
-    buy.or(sell)
+    match (
+        sides.find(Side::Buy, number),
+        sides.find(Side::Sell, number),
+    ) {
+        (Some(order), _) => Some(Found {
+            side: Side::Buy,
+            order,
+        }),
+        (None, Some(order)) => Some(Found {
+            side: Side::Sell,
+            order,
+        }),
+        (None, None) => None,
+    }
 }

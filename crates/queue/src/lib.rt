@@ -97,4 +97,7 @@ pub trait Queue<E: Ranked> {
         ensures leaves { lawful self.old → held self.new ≡ after_take E.Ranked.rank (held self.old) number }
         ensures keeps { lawful self.old → lawful self.new }
         ensures refused { IfNone result (self.new ≡ self.old) };
+
+    // What a lawful queue holds is sound.
+    ghost sound: { (q : Self) → lawful q → Sound E.Ranked.rank (held q) };
 }

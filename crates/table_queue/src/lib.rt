@@ -179,4 +179,6 @@ impl<'a, E: Ranked, A: Arrangement<E>> Queue<E> for TableQueue<'a, E, A> {
         self.count -= 1;
         Some(e)
     }
+
+    ghost sound = { λ q lawful. lawful.sound };
 }

@@ -14,6 +14,7 @@ use side::OneSide;
 use terms::side::Side;
 
 // A buying order ranks at a higher price first, a selling order at a lower one; then the lower turn ranks first.
+// No `Ord`: lots don't count, so the order would not agree with the derived `Eq`.
 impl<S: OneSide> Ranked for SideOrder<S> {
     ghost rank = { side_rank S.OneSide.side };
 

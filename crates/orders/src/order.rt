@@ -10,7 +10,7 @@ use terms::side::Side;
 pub struct Order {
     // the turn that it got on entering
     pub number: u32,
-    // the market maker is member 0; an option of a member would be compared with a message's number by a match
+    // the market maker is member 0; the rules' definitions say so, and clauses would turn an option into that number
     pub member: u32,
     pub price: u32,
     pub lots: u32,

@@ -24,6 +24,10 @@ answers_proper last (u ∷ us) p = answers_proper (told last u) us (or_proper (b
 pub quote_proper : (last : Option Band) (us : List Update) → ForSome last (λ b. b.low ≤ b.high) → Proper (quote_answers last us)
 quote_proper last us p = answers_proper last us (proper_of last p)
 
+-- a quote, proper or not, stands for its band
+pub update_proper : (last : Update) (us : List Update) → Proper (quote_answers (band_of last.bid last.ask) us)
+update_proper last us = answers_proper (band_of last.bid last.ask) us (band_proper last.bid last.ask)
+
 -- a bid above its ask moves nothing
 pub quote_backwards : (last : Option Band) (us vs : List Update) (u : Update) → u.ask < u.bid → quote_answers last (us ++ (u ∷ vs)) ≡ quote_answers last (us ++ vs)
 quote_backwards last [] vs u h = ap (λ o. quote_answers (or_else o last) vs) (cond-false (nat_le u.bid u.ask) _ None (lt-leb u.bid u.ask h))
@@ -44,3 +48,7 @@ or_none (Some b) = refl
 -- where there has been no quote
 pub quote_first : (us : List Update) → quote_answers None us ≡ last_quote us
 quote_first us = quote_last None us ∙ or_none (last_quote us)
+
+-- nor has there been one where all that was told has its bid above its ask
+pub update_first : (last : Update) (us : List Update) → last.ask < last.bid → quote_answers (band_of last.bid last.ask) us ≡ last_quote us
+update_first last us h = ap (λ o. quote_answers o us) (cond-false (nat_le last.bid last.ask) _ None (lt-leb last.bid last.ask h)) ∙ quote_first us

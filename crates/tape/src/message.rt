@@ -20,7 +20,7 @@ fn read_as<const N: usize, T: From<[u32; N]>, F: FnOnce(T) -> Message>(
     requires fits_memory { N * 4 < 2 ^ 63 }
     ensures { MadeOf T.from_gives (F.post kind) (read_numbers N bytes.now) (seen result) }
 {
-    // no `?`: the prover does not follow one at a pair of `N` numbers and a reference
+    // no `?`: at a pair of `N` numbers and a reference the borrow checker does not cover one yet
     match read_numbers::<N>(bytes) {
         Ok(read) => {
             let (numbers, rest) = read;

@@ -10,7 +10,7 @@ mod tests {
     use tape::setup::read_setup;
     use terms::message::Message;
 
-    // How a number reads: its value and how many bytes are left, or the refusal's number.
+    // How a number reads: its value and how many bytes are left, or the number under which hosts see the refusal.
     fn number_as(bytes: &[u8]) -> Result<(u32, usize), u8> {
         read_number(bytes)
             .map(|(n, rest)| (n, rest.len()))

@@ -12,7 +12,7 @@ pub struct Trade {
 // What a call answers. The sums are wide enough for any queue.
 #[derive(Clone, Copy, Debug, PartialEq, Eq)]
 pub struct Answer {
-    // the order, the bid leg of a quote, or 0
+    // the order, the bid leg of a quote, or 0, as a tape's listing prints it
     pub number: u32,
     // lots traded in the call, each trade once
     pub traded: u128,

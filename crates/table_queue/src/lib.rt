@@ -1,7 +1,7 @@
 // A queue that keeps its elements in the first places of a table of the caller's.
 #![tactic(auto)]
 
-ghost use Rattle.std.specs.Prelude.{◌≡◌, ℕ, ◌+◌, ◌-◌, ◌<◌, ◌≤◌, ◌≢◌, false, List, Option, [], length, take, Some, IfNone, OnErr, OnOk, OnSome, slice_set};
+ghost use Rattle.std.specs.Prelude.{◌≡◌, ℕ, ◌+◌, ◌-◌, ◌<◌, ◌≤◌, ◌≢◌, false, List, Option, [], ◌++◌, length, take, Some, IfNone, OnErr, OnOk, OnSome, slice_set};
 ghost use Rattle.queue.specs.Held.{head, first, place, any, is, insert, remove, change, numbered, barred, uncut, answer, after_put, after_cut, after_take};
 ghost use Rattle.queue.specs.Through.{SameElements};
 ghost use Rattle.table_queue.specs.Arranged.{held_in, Lawful, Stands, Arranges};
@@ -32,18 +32,18 @@ pub trait Arrangement<E: Ranked> {
     fn first_after(elements: &[E], e: &E) -> Option<E>
         ensures { Stands E.Ranked.rank order Kept elements.now → result ≡ first (E.Ranked.rank.before e.now) (order elements.now) };
 
-    // Puts `e` in beside the first `count` elements. If its key is new, it comes to stand where it ranks.
-    fn insert(table: &mut [E], count: usize, e: E)
-        requires { count < length table.old }
-        ensures puts { Puts count e table.old table.new }
-        ensures arranges { Stands E.Ranked.rank order Kept (take count table.old) → any (is E.Ranked.rank.key (E.Ranked.rank.key e)) (take count table.old) ≡ false → Arranges order Kept (take (count + 1) table.new) (insert E.Ranked.rank.before e (order (take count table.old))) };
+    // The last of `elements` is a free place. Puts `e` in beside the others.
+    // If its key is new, it comes to stand where it ranks. What stands behind in a table stays.
+    fn insert(elements: &mut [E], e: E)
+        ensures puts { 0 < length elements.old → (behind : List E) → Puts (length elements.old - 1) e (elements.old ++ behind) (elements.new ++ behind) }
+        ensures arranges { 0 < length elements.old → Stands E.Ranked.rank order Kept (take (length elements.old - 1) elements.old) → any (is E.Ranked.rank.key (E.Ranked.rank.key e)) (take (length elements.old - 1) elements.old) ≡ false → Arranges order Kept elements.new (insert E.Ranked.rank.before e (order (take (length elements.old - 1) elements.old))) };
 
-    // Takes the element at `at` out of the first `count`. The others stand as they did.
-    fn remove_at(table: &mut [E], count: usize, at: usize)
-        requires inside { at < count }
-        requires within { count ≤ length table.old }
-        ensures takes { Takes count at table.old table.new }
-        ensures arranges { (number : ℕ) → at ≡ place (is E.Ranked.rank.number number) (take count table.old) → Stands E.Ranked.rank order Kept (take count table.old) → Arranges order Kept (take (count - 1) table.new) (remove (is E.Ranked.rank.number number) (order (take count table.old))) };
+    // Takes the element at `at` out of `elements`, if it is there. The others stand as they did, before the last place.
+    // What stands behind in a table stays.
+    fn remove_at(elements: &mut [E], at: usize)
+        ensures takes { at < length elements.old → (behind : List E) → Takes (length elements.old) at (elements.old ++ behind) (elements.new ++ behind) }
+        ensures arranges { at < length elements.old → (number : ℕ) → at ≡ place (is E.Ranked.rank.number number) elements.old → Stands E.Ranked.rank order Kept elements.old → Arranges order Kept (take (length elements.old - 1) elements.new) (remove (is E.Ranked.rank.number number) (order elements.old)) }
+        ensures outside { length elements.old ≤ at → elements.new ≡ elements.old };
 
     // In rank order the elements are the same.
     ghost same: { (xs : List E) → SameElements xs (order xs) };
@@ -139,7 +139,7 @@ impl<'a, E: Ranked, A: Arrangement<E>> Queue<E> for TableQueue<'a, E, A> {
         if e.lots() == 0 || clashes(self.elements(), &e) {
             return Err(Refusal::AlreadyHeld);
         }
-        A::insert(self.table, self.count, e);
+        A::insert(&mut self.table[..=self.count], e);
         self.count += 1;
         Ok(())
     }
@@ -160,7 +160,7 @@ impl<'a, E: Ranked, A: Arrangement<E>> Queue<E> for TableQueue<'a, E, A> {
         if left > 0 {
             self.table[at] = e.with_lots(left);
         } else {
-            A::remove_at(self.table, self.count, at);
+            A::remove_at(&mut self.table[..self.count], at);
             self.count -= 1;
         }
         Ok(())
@@ -175,7 +175,7 @@ impl<'a, E: Ranked, A: Arrangement<E>> Queue<E> for TableQueue<'a, E, A> {
     {
         let at = place_of(self.elements(), number)?;
         let e = self.table[at];
-        A::remove_at(self.table, self.count, at);
+        A::remove_at(&mut self.table[..self.count], at);
         self.count -= 1;
         Some(e)
     }

@@ -1,5 +1,6 @@
-use Rattle.std.proofs.Common.{◌≡◌, ◌-◌, ◌<◌, get_or, take, set, Some, None, Err, rules, sym, refl, ap, ◌∙◌, subst, arith, length-set}
+use Rattle.std.proofs.Common.{◌≡◌, ◌-◌, ◌<◌, ◌++◌, length, get_or, take, drop, set, Some, None, Err, rules, sym, refl, ap, ◌∙◌, subst, arith, length-set}
 use lib.Seq.{take-set-lt}
+use Rattle.std.proofs.lemmas.List.{length-take-le}
 use Rattle.std.specs.List.{position}
 use Rattle.terms.specs.declared.refusal.Refusal.TheVariants.{BadCut}
 use Rattle.queue.proofs.Cuts.{change-at, cutting-all, cutting_some, cut_refused, cut_allowed, cut_within, ordered-change}
@@ -8,6 +9,7 @@ use Rattle.queue.proofs.Puts.{held_same}
 use Rattle.queue.proofs.Removes.{ordered-remove}
 use Rattle.queue.specs.Held.{is, place, first, remove, change, uncut, answer, unless, cutting}
 use Rattle.table_queue.specs.Arranged.{held_in, Lawful, Arranges}
+use Rattle.table_queue.proofs.Fronts.{front_whole, front_long, front_removed}
 use Rattle.table_queue.proofs.Meanings.{stands, found_here, arranged_lawful}
 use Rattle.table_queue.proofs.TableQueueQueue.cut.Goals as goal
 
@@ -66,7 +68,8 @@ returns-else-left-gt0 g c =
     let i = c.in_ok-at.at in
     let k = c.args.lots in
     let h = held_in a.order n t in
-    let u = c.remove_at.new.table in
+    let left = c.remove_at.new.elements in
+    let u = left ++ drop n t in
     let p = is r.number c.args.number in
     let e = get_or t i c.index-self-at.result in
     let found : Some i ≡ position p (take n t) = sym c.in_ok-at.ensures.ok_part ∙ c.place_of.ensures ∙ ap (position p) c.elements.ensures in
@@ -75,15 +78,19 @@ returns-else-left-gt0 g c =
     let held-e : Lawful r a.order a.Kept n t → first p h.elements ≡ Some e = λ l. found_here r a.order a.Kept laws.same n t l c.args.number ∙ first-e in
     let within = cut_within r k e (sym c.if-not-can_cut.ensures) in
     let all : r.lots e ≡ k = omega (arith, c.if-left-gt0.false, c.lots.ensures) in
+    let wide = length-take-le n t s.within in
+    let inside = front_less p t n s.within i found in
     let after : Lawful r a.order a.Kept n t → Arranges a.order a.Kept (take (n - 1) u) (remove p h.elements) = λ l.
-    c.remove_at.ensures.arranges c.args.number at (stands r a.order a.Kept laws.same n t l) in
+    front_removed a.order a.Kept n t left (remove p h.elements) s.within c.remove_at.auto.elements
+    (c.remove_at.ensures.arranges (omega arith) c.args.number at (stands r a.order a.Kept laws.same n t l)) in
+    let takes : a.Takes n i t u = subst (λ j. a.Takes j i t u) wide (front_whole n t left (a.Takes (length (take n t)) i) (c.remove_at.ensures.takes (omega arith))) in
     let why = λ (l : Lawful r a.order a.Kept n t). cut_allowed r k (first p h.elements) e (held-e l) (sym c.if-not-can_cut.ensures) in
     record {
       answers = λ l. ap answer (sym (why l));
-      leaves = λ l. rw (why l) (held_same _ _ _ _ c.remove_at.auto.table ((after l).held ∙ sym (cutting-all p r k h.elements e (held-e l) all)));
+      leaves = λ l. rw (why l) (held_same _ _ _ _ (front_long n t left c.remove_at.auto.elements) ((after l).held ∙ sym (cutting-all p r k h.elements e (held-e l) all)));
       keeps = λ l. arranged_lawful r a.order a.Kept laws.same (n - 1) u (remove p h.elements) (after l) (ordered-remove p r h.elements l.sound.elements);
       refused = tt;
-      table = subst (λ o. a.Cuts k o (place p (take n t)) n t u) (sym first-e) (subst (λ j. a.Cuts k (Some e) j n t u) at (subst (λ x. a.Cuts x (Some e) i n t u) all (laws.cut_all e n i t u c.remove_at.ensures.takes)));
+      table = subst (λ o. a.Cuts k o (place p (take n t)) n t u) (sym first-e) (subst (λ j. a.Cuts k (Some e) j n t u) at (subst (λ x. a.Cuts x (Some e) i n t u) all (laws.cut_all e n i t u takes)));
     }
 
 -- fewer are cut: the element stays with the rest

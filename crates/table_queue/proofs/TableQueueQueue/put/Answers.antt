@@ -1,9 +1,11 @@
-use Rattle.std.proofs.Common.{◌≡◌, ◌+◌, true, false, ◌||◌, eqb, take, sym, refl, ap, ◌∙◌, arith}
+use Rattle.std.proofs.Common.{◌≡◌, ◌+◌, ◌-◌, true, false, ◌||◌, eqb, ◌++◌, length, take, drop, sym, refl, ap, ◌∙◌, subst, arith}
 use Rattle.std.proofs.lemmas.Bool.{or_left, or_right, eq-eqb}
+use Rattle.std.proofs.lemmas.List.{length-take-le, take-take, take_at}
 use Rattle.queue.proofs.Inserts.{any_or}
 use Rattle.queue.proofs.Puts.{held_same, unbarred, barred-full, barred_held, ordered-insert}
 use Rattle.queue.specs.Held.{insert, answer, unless, any, is, clash}
-use Rattle.table_queue.specs.Arranged.{held_in, Lawful, Arranges}
+use Rattle.table_queue.specs.Arranged.{held_in, Lawful, Stands, Arranges}
+use Rattle.table_queue.proofs.Fronts.{front_whole, front_long}
 use Rattle.table_queue.proofs.Meanings.{held_long, stands, arranged_lawful}
 use Rattle.table_queue.proofs.Perms.{perm_any}
 use Rattle.table_queue.proofs.TableQueueQueue.put.Goals as goal
@@ -59,20 +61,27 @@ returns g c =
     let n = s.count in
     let t = s.table.now in
     let e = c.args.e in
-    let u = c.insert.new.table in
+    let front = take (n + 1) t in
+    let left = c.insert.new.elements in
+    let u = left ++ drop (n + 1) t in
     let h = held_in a.order n t in
     let xs = take n t in
     let long = held_long r a.order a.Kept laws.same n t s.within in
+    let wide : length front ≡ n + 1 = length-take-le (n + 1) t (omega arith) in
+    let last : length front - 1 ≡ n = omega arith in
+    let others : take (length front - 1) front ≡ xs = ap (λ k. take k front) last ∙ take-take n (n + 1) t (omega arith) in
     let clear-xs : any (clash r e) xs ≡ false = sym (c.clashes.ensures ∙ ap (any (clash r e)) c.elements.ensures) ∙ c.if-clashes.false in
     let clear : any (clash r e) h.elements ≡ false = sym (perm_any (clash r e) (laws.same xs)) ∙ clear-xs in
     let some : r.lots e ≡ 0 → ⊥ = λ z. c.if-lots-eq0.false (c.lots.ensures ∙ z) in
     let why = unbarred r h e (omega arith) some clear in
     let after : Lawful r a.order a.Kept n t → Arranges a.order a.Kept (take (n + 1) u) (insert r.before e h.elements) = λ l.
-    c.insert.ensures.arranges (stands r a.order a.Kept laws.same n t l) (any_or (is r.number (r.number e)) (is r.key (r.key e)) xs clear-xs).1 in
+    subst (λ ys. Arranges a.order a.Kept ys (insert r.before e h.elements)) (sym (take_at left (drop (n + 1) t) (n + 1) (c.insert.auto.elements ∙ wide)))
+    (subst (λ ys. Stands r a.order a.Kept ys → any (is r.key (r.key e)) ys ≡ false → Arranges a.order a.Kept left (insert r.before e (a.order ys))) others (c.insert.ensures.arranges (omega arith))
+    (stands r a.order a.Kept laws.same n t l) (any_or (is r.number (r.number e)) (is r.key (r.key e)) xs clear-xs).1) in
     record {
       answers = λ _. ap answer (sym why);
-      leaves = λ l. rw why (held_same _ _ _ _ c.insert.auto.table (after l).held);
+      leaves = λ l. rw why (held_same _ _ _ _ (front_long (n + 1) t left c.insert.auto.elements) (after l).held);
       keeps = λ l. arranged_lawful r a.order a.Kept laws.same (n + 1) u (insert r.before e h.elements) (after l) (ordered-insert r m.transitive m.connected h.elements e some clear l.sound.elements);
       refused = tt;
-      table = c.insert.ensures.puts;
+      table = subst (λ k. a.Puts k e t u) last (front_whole (n + 1) t left (a.Puts (length front - 1) e) (c.insert.ensures.puts (omega arith)));
     }

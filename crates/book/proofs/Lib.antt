@@ -1,7 +1,6 @@
 pub mod OnSides
 pub mod Carrying
 pub mod Changes
-pub mod Replies
 pub mod Plays
 pub mod Refusing
 pub mod Allowed

@@ -6,7 +6,6 @@ use Rattle.terms.specs.declared.refusal.Refusal.{Refusal}
 use Rattle.terms.specs.declared.side.Side.{Side}
 use Rattle.terms.specs.declared.side.Side.TheVariants.{Buy, Sell}
 use Rattle.terms.specs.declared.side.TimeInForce.TheVariants.{Day, Immediate}
-use Rattle.terms.specs.declared.trade.Answer.{Answer}
 use Rattle.queue.specs.Held.{Held}
 use Rattle.orders.specs.declared.order.Order.{Order}
 use Rattle.rules.specs.Book as book
@@ -48,11 +47,6 @@ reply_of (reply.Resting m n) = calls.lots m n
 abbrev pub replied : Result Reply Refusal → calls.Outcome
 replied (Ok r) = reply_of r
 replied (Err e) = calls.refused e
-
--- an answer as a reply
-abbrev pub reply_to : Result Answer Refusal → Result Reply Refusal
-reply_to (Ok a) = Ok (reply.Answer a)
-reply_to (Err e) = Err e
 
 abbrev pub phase_book : Phase → (Side → Held Order) → book.Answers → book.Book
 phase_book (phase.Waiting p) = waiting_book p

@@ -8,7 +8,7 @@ ghost use Rattle.terms.specs.declared.trade.Trade.{Trade as AnyTrade};
 ghost use Rattle.book.specs.Books.{book_in, waiting_book, trading_book, halted_book, closed_book, outcome_of};
 ghost use Rattle.book.specs.BySide.{side_held};
 ghost use Rattle.terms.specs.declared.side.Side.{Side as AnySide};
-ghost use Rattle.book.specs.Dispatch.{call_of, message_of, replied, reply_to, phase_book, stays};
+ghost use Rattle.book.specs.Dispatch.{call_of, message_of, replied, phase_book, stays};
 
 use crate::phase::{Book, Closed, Halted, MayEnd, Trading, Waiting};
 use crate::sides::Sides;
@@ -53,13 +53,6 @@ pub enum Phase {
     Closed(Book<Closed>),
 }
 
-// An answer as a reply.
-fn as_reply(res: Result<Answer, Refusal>) -> Result<Reply, Refusal>
-    ensures { result ≡ reply_to res }
-{
-    res.map(Reply::Answer)
-}
-
 impl<P: MayEnd> Book<P> {
     // The end of the day as a reply.
     fn ended<D: Sides>(self, sides: &mut D) -> (Phase, Result<Reply, Refusal>)
@@ -75,6 +68,8 @@ impl<P: MayEnd> Book<P> {
 
 impl Book<Waiting> {
     // Any message on this phase. Written for each phase apart, since each allows other messages.
+    // Sides, range and trades come one by one, since a call takes only what it uses: `cancel` and `end` no range or
+    // trades, a change no range to tell.
     fn message<D: Sides, R: PriceRange>(
         self,
         message: Message,
@@ -146,7 +141,7 @@ impl Book<Trading> {
             Message::Resume => (Phase::Trading(self), Err(Refusal::WrongPhase)),
             _ => {
                 let result = self.trade(message, sides, range, trades);
-                (Phase::Trading(self), as_reply(result))
+                (Phase::Trading(self), result.map(Reply::Answer))
             }
         }
     }
@@ -169,11 +164,11 @@ impl Book<Halted> {
         match message {
             Message::Change(change) => {
                 let result = self.change(change, sides);
-                (Phase::Halted(self), as_reply(result))
+                (Phase::Halted(self), result.map(Reply::Answer))
             }
             Message::Cancel(cancel) => {
                 let result = self.cancel(cancel, sides);
-                (Phase::Halted(self), as_reply(result))
+                (Phase::Halted(self), result.map(Reply::Answer))
             }
             Message::Resume => (Phase::Waiting(self.resume()), Ok(Reply::Answer(NOTHING))),
             Message::End => self.ended(sides),
@@ -205,6 +200,7 @@ impl Phase {
     }
 
     // The buying lots and the selling lots that rest. It only looks at the two queues.
+    // The two are taken apart: `TwoQueues` borrows both as `&mut`, which would ask more of who only looks.
     pub fn resting<B: Queue<BuyOrder>, S: Queue<SellOrder>>(
         &self,
         buys: &B,

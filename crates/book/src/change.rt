@@ -66,7 +66,8 @@ fn lower<D: Sides>(change: &OrderChange, found: &Found, sides: &mut D) -> Answer
 }
 
 impl Book<Trading> {
-    // Changes price and lots of what rests of an order. It keeps its place, or takes a new turn and meets like an order.
+    // Changes price and lots of what rests of an order.
+    // It keeps its place, or takes a new turn and meets like an order.
     pub fn change<D: Sides, R: PriceRange>(
         &mut self,
         change: OrderChange,

@@ -13,6 +13,7 @@ ghost use Rattle.book.specs.Refusing.{refused_if};
 
 use crate::checks::{check_lots, check_member, check_price, check_table, check_turns, refuse_if};
 use crate::find::find_order;
+use crate::matching::is_beyond;
 use crate::phase::{Book, DayPhase};
 use crate::sides::Sides;
 use orders::order::{Found, Order};
@@ -42,10 +43,7 @@ fn is_better(side: Side, was: u32, price: u32) -> bool
 fn is_out_of_reach(side: Side, price: u32, band: Option<Band>) -> bool
     ensures { result ≡ out_of_reach side price band }
 {
-    band.is_none_or(|band| match side {
-        Side::Buy => price > band.high,
-        Side::Sell => price < band.low,
-    })
+    band.is_none_or(|band| is_beyond(side, price, band))
 }
 
 // In a halt neither price nor lots may rise; while trading a better price is within reach.

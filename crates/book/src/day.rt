@@ -14,6 +14,7 @@ ghost use Rattle.book.specs.Books.{book_in, waiting_book, trading_book, halted_b
 ghost use Rattle.book.specs.BySide.{plain_buys, plain_sells, side_held};
 
 use crate::call::NOTHING;
+use crate::checks::refuse_if;
 use crate::phase::{Book, Closed, DayPhase, Halted, MayEnd, Trading, Waiting};
 use crate::side::is_fit;
 use crate::sides::Sides;
@@ -26,6 +27,7 @@ use terms::trade::Answer;
 
 impl Book<Waiting> {
     // Opens a book on two empty queues, which it only looks at.
+    // The two are taken apart: `TwoQueues` borrows both as `&mut`, which would ask more of who only looks.
     pub fn open<B: Queue<BuyOrder>, S: Queue<SellOrder>>(
         terms: Instrument,
         buys: &B,
@@ -36,12 +38,8 @@ impl Book<Waiting> {
         ensures lawful { OnOk result (B.Queue.lawful buys.now × S.Queue.lawful sells.now) }
         ensures day { IfOk result (λ w. (range : Answers) → Day range [] (waiting_book w (side_held (B.Queue.held buys.now) (S.Queue.held sells.now)) range) × Lawful range [] (waiting_book w (side_held (B.Queue.held buys.now) (S.Queue.held sells.now)) range)) }
     {
-        if !terms.is_allowed() {
-            return Err(Refusal::OutsideLimits);
-        }
-        if !is_fit(buys) || !is_fit(sells) {
-            return Err(Refusal::UnfitQueue);
-        }
+        refuse_if(!terms.is_allowed(), Refusal::OutsideLimits)?;
+        refuse_if(!is_fit(buys) || !is_fit(sells), Refusal::UnfitQueue)?;
         Ok(Book {
             terms,
             next: 1,

@@ -63,6 +63,8 @@ impl Book<Trading> {
     }
 
     // Enters an order: it takes the next turn as its number and meets the other side.
+    // Sides, range and trades come one by one, since a call takes only what it uses: `cancel` and `end` no range or
+    // trades, a change no range to tell.
     pub fn order<D: Sides, R: PriceRange>(
         &mut self,
         side: Side,

@@ -1,8 +1,8 @@
 // Matching: an order against the other side, first order after first order.
-ghost use Rattle.std.specs.Prelude.{◌≡◌, ◌<◌, ◌≤◌, false, length};
+ghost use Rattle.std.specs.Prelude.{◌≡◌, ◌<◌, ◌≤◌, false, length, Some};
 ghost use Rattle.terms.specs.declared.side.Side.{Side as AnySide};
 ghost use Rattle.rules.specs.Book.{other};
-ghost use Rattle.rules.specs.Meeting.{can_meet, nearest as nearest_of, resting_limit, trade as trade_of, lapses as lapsing};
+ghost use Rattle.rules.specs.Meeting.{beyond, can_meet, nearest as nearest_of, resting_limit, trade as trade_of, lapses as lapsing};
 ghost use Rattle.rules.specs.Tables.{Fits, Room, meet_at, enter_at};
 ghost use Rattle.book.specs.Matching.{incoming_of};
 
@@ -107,7 +107,8 @@ pub(crate) fn meet<D: Sides>(
     let opposite = other(incoming.side);
     let mut lots = incoming.lots;
     let mut next = place;
-    // The form of matching that docs/DECISIONS.md names: left by `break` with the remainder, trades written by index.
+    // The form of matching that docs/DECISIONS.md names: left by `break` with the remainder, trades written by index,
+    // since the trade table is the caller's fixed memory.
     let left = loop {
         if lots == 0 || next >= trades.len() {
             break lots;
@@ -161,14 +162,19 @@ pub(crate) fn enter<D: Sides>(
     met
 }
 
-// Whether the remainder of an order is cancelled: it is immediate, or a buy above the high, or a sell below the low.
+// A buy above the high, or a sell below the low.
+pub(crate) fn is_beyond(side: Side, price: u32, band: Band) -> bool
+    ensures { result ≡ beyond side price (Some band) }
+{
+    match side {
+        Side::Buy => price > band.high,
+        Side::Sell => price < band.low,
+    }
+}
+
+// Whether the remainder of an order is cancelled: it is immediate, or its price lies beyond the band.
 pub(crate) fn lapses(time: TimeInForce, side: Side, price: u32, band: Option<Band>) -> bool
     ensures { result ≡ lapsing time side price band }
 {
-    match (time, side, band) {
-        (TimeInForce::Immediate, _, _) => true,
-        (TimeInForce::Day, _, None) => false,
-        (TimeInForce::Day, Side::Buy, Some(band)) => price > band.high,
-        (TimeInForce::Day, Side::Sell, Some(band)) => price < band.low,
-    }
+    time == TimeInForce::Immediate || band.is_some_and(|band| is_beyond(side, price, band))
 }

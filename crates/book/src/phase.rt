@@ -50,8 +50,8 @@ pub struct Trading {
     pub(crate) quote: Quoted,
 }
 
-// Trading was halted; orders rest. It holds what `Trading` does, and is a type of its own so that the build turns away a
-// call that the phase does not allow.
+// Trading was halted; orders rest. It holds what `Trading` does, and is a type of its own so that the build turns away
+// a call that the phase does not allow.
 #[derive(Drop)]
 pub struct Halted {
     pub(crate) last: Quoted,

@@ -94,7 +94,8 @@ impl<P: DayPhase> Book<P> {
         self.check_legs(sides)
     }
 
-    // Places a quote: the old legs go, the range is told, both new legs rest, and what can meet does. Says the new quote.
+    // Places a quote: the old legs go, the range is told, both new legs rest, and what can meet does.
+    // Says the new quote.
     fn place_quote<D: Sides, R: PriceRange>(
         &mut self,
         entry: QuoteEntry,

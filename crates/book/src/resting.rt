@@ -13,6 +13,7 @@ use orders::order::{BuyOrder, SellOrder};
 use queue::Queue;
 
 // The lots that rest on both queues.
+// The two are taken apart: `TwoQueues` borrows both as `&mut`, which would ask more of who only looks.
 fn both_sides<B: Queue<BuyOrder>, S: Queue<SellOrder>>(buys: &B, sells: &S) -> (u128, u128)
     ensures { B.Queue.lawful buys.now → S.Queue.lawful sells.now → result ≡ (resting_lots (plain_buys (B.Queue.held buys.now)).elements, resting_lots (plain_sells (S.Queue.held sells.now)).elements) }
 {
@@ -21,6 +22,7 @@ fn both_sides<B: Queue<BuyOrder>, S: Queue<SellOrder>>(buys: &B, sells: &S) -> (
 
 impl<P: DayPhase> Book<P> {
     // The buying lots and the selling lots that rest, in every phase. It only looks at the two queues.
+    // The two are taken apart: `TwoQueues` borrows both as `&mut`, which would ask more of who only looks.
     pub fn resting<B: Queue<BuyOrder>, S: Queue<SellOrder>>(
         &self,
         buys: &B,

@@ -40,10 +40,7 @@ pub(crate) fn is_full<D: Sides>(sides: &D, side: Side) -> bool
 pub(crate) fn holds_leg<D: Sides>(sides: &D, side: Side, leg: Option<u32>) -> bool
     ensures { D.lawful sides.now side → result ≡ holds leg (D.held sides.now side).elements }
 {
-    match leg {
-        Some(number) => sides.find(side, number).is_some(),
-        None => false,
-    }
+    leg.is_some_and(|number| sides.find(side, number).is_some())
 }
 
 // Whether there is no place left even where the order numbered `leg` counts as gone.

@@ -19,7 +19,8 @@ use terms::refusal::Refusal;
 use terms::side::Side;
 
 // Two sides, each with its orders in priority. A lawful side is what it should be: its promises rest on that, and every
-// call hands it on, and leaves the other side as it was.
+// call hands it on, and leaves the other side as it was. `keeps` and `same` are said at each call, since a caller uses
+// them apart.
 pub trait Sides {
     ghost lawful: { Self → AnySide → Type 0 };
 

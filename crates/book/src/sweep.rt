@@ -18,11 +18,7 @@ pub(crate) fn sweep<D: Sides>(band: Option<Band>, sides: &mut D, trades: &mut [T
     ensures sweeps { ((s : AnySide) → D.lawful sides.old s) → FitsBoth (D.held sides.old Side.Buy).elements (D.held sides.old Side.Sell).elements 0 trades.old → record { table = trades.new; place = result; buys = (D.held sides.new Side.Buy).elements; sells = (D.held sides.new Side.Sell).elements } ≡ sweep_at band (D.held sides.old Side.Buy).elements (D.held sides.old Side.Sell).elements 0 trades.old }
 {
     let mut place = 0;
-    // The form of matching that docs/DECISIONS.md names: a loop left by `break`.
-    loop {
-        let Some(buy) = sides.first(Side::Buy) else {
-            break;
-        };
+    while let Some(buy) = sides.first(Side::Buy) {
         let incoming = Incoming {
             side: Side::Buy,
             number: buy.number,

@@ -1,4 +1,4 @@
-use Rattle.std.proofs.Common.{◌≡◌, None, sym, refl}
+use Rattle.std.proofs.Common.{◌≡◌, None, rules}
 use Rattle.rules.proofs.Openings.{opens_a_day}
 use Rattle.rules.specs.Opening.{opening_refusal}
 use Rattle.book.specs.BySide.{plain_buys, plain_sells}
@@ -8,5 +8,5 @@ pub returns-clause-day : goal.returns-clause-day
 returns-clause-day g c range =
     let buys = plain_buys (g.B.Queue.held c.args.buys.now) in
     let sells = plain_sells (g.S.Queue.held c.args.sells.now) in
-    let none : opening_refusal c.args.terms buys sells ≡ None = rw (sym c.if-not-is_allowed.ensures, sym c.if-not-is_fit.ensures.fits, sym c.if-not-is_fit-2.ensures.fits) refl in
+    let none : opening_refusal c.args.terms buys sells ≡ None = search rules in
     opens_a_day c.args.terms buys sells range none

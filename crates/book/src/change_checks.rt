@@ -19,6 +19,7 @@ use terms::refusal::Refusal;
 use terms::side::Side;
 
 // Where an order is changed: while trading, at these prices, or in a halt.
+// Kept beside the phase types: the band is known at the call and not to the phase; a trait would ask a halt for one.
 #[derive(Clone, Copy)]
 pub(crate) enum Setting {
     Trading(Option<Band>),

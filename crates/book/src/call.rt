@@ -5,7 +5,7 @@ ghost use Rattle.rules.specs.ByRule.{ByRule, event_of};
 ghost use Rattle.rules.specs.Calls as calls;
 ghost use Rattle.rules.specs.Keeps.{Keeps};
 ghost use Rattle.terms.specs.declared.trade.Trade.{Trade as AnyTrade};
-ghost use Rattle.book.specs.Books.{book_in, waiting_book, trading_book, halted_book, closed_book, outcome_of};
+ghost use Rattle.book.specs.Books.{book_in, waiting_book, trading_book, halted_book, outcome_of};
 ghost use Rattle.book.specs.BySide.{side_held};
 ghost use Rattle.terms.specs.declared.side.Side.{Side as AnySide};
 ghost use Rattle.book.specs.Dispatch.{call_of, message_of, replied, phase_book, stays};

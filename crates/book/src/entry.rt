@@ -1,8 +1,7 @@
 // Order entry.
-ghost use Rattle.std.specs.Prelude.{◌≡◌, length, if◌then◌else◌, None, OnErr, OnOk};
+ghost use Rattle.std.specs.Prelude.{◌≡◌, length, if◌then◌else◌, None, OnErr};
 ghost use Rattle.terms.specs.declared.side.Side.{Side as AnySide};
-ghost use Rattle.orders.specs.Priority.{rank_of};
-ghost use Rattle.queue.specs.Held.{Sound, answer};
+ghost use Rattle.queue.specs.Held.{answer};
 ghost use Rattle.rules.specs.Checks.{first_of, is_immediate, place_checks, order_checks};
 ghost use Rattle.rules.specs.ByRule.{ByRule, event_of};
 ghost use Rattle.rules.specs.Calls as calls;
@@ -51,8 +50,7 @@ impl Book<Trading> {
         sides: &D,
         places: usize,
     ) -> Result<(), Refusal>
-        ensures answers { result ≡ answer (first_of (order_checks side time entry.now places (trading_book self.now (D.held sides.now) (λ us. None)))) }
-        ensures sound { OnOk result ((s : AnySide) → D.lawful sides.now s → Sound (rank_of s) (D.held sides.now s)) }
+        ensures { result ≡ answer (first_of (order_checks side time entry.now places (trading_book self.now (D.held sides.now) (λ us. None)))) }
     {
         check_member(entry.member)?;
         check_price(&self.terms, entry.price)?;

@@ -2,7 +2,7 @@
 ghost use Rattle.std.specs.Prelude.{◌≡◌};
 ghost use Rattle.terms.specs.declared.side.Side.{Side as AnySide};
 ghost use Rattle.orders.specs.Priority.{rank_of};
-ghost use Rattle.queue.specs.Held.{Sound, numbered};
+ghost use Rattle.queue.specs.Held.{numbered};
 ghost use Rattle.rules.specs.Checks.{found_in};
 
 use crate::sides::Sides;
@@ -11,8 +11,7 @@ use terms::side::Side;
 
 // The order with this number, and its side; the buys are asked first.
 pub(crate) fn find_order<D: Sides>(number: u32, sides: &D) -> Option<Found>
-    ensures finds { ((s : AnySide) → D.lawful sides.now s) → result ≡ found_in (numbered (rank_of Side.Buy) (D.held sides.now Side.Buy) number) (numbered (rank_of Side.Sell) (D.held sides.now Side.Sell) number) }
-    ensures sound { (s : AnySide) → D.lawful sides.now s → Sound (rank_of s) (D.held sides.now s) }
+    ensures { ((s : AnySide) → D.lawful sides.now s) → result ≡ found_in (numbered (rank_of Side.Buy) (D.held sides.now Side.Buy) number) (numbered (rank_of Side.Sell) (D.held sides.now Side.Sell) number) }
 {
     match (
         sides.find(Side::Buy, number),

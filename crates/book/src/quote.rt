@@ -1,8 +1,7 @@
 // The market maker's quote, and its renewal.
-ghost use Rattle.std.specs.Prelude.{◌≡◌, ◌+◌, ◌≤◌, List, ◌∷◌, length, IfErr, Some, None, OnErr, OnOk};
+ghost use Rattle.std.specs.Prelude.{◌≡◌, ◌+◌, ◌≤◌, List, ◌∷◌, length, IfErr, None, OnErr, OnOk};
 ghost use Rattle.terms.specs.declared.side.Side.{Side as AnySide};
-ghost use Rattle.orders.specs.Priority.{rank_of};
-ghost use Rattle.queue.specs.Held.{Sound, answer};
+ghost use Rattle.queue.specs.Held.{answer};
 ghost use Rattle.price_range.specs.Bands.{Update};
 ghost use Rattle.rules.specs.ByRule.{ByRule, QuoteReady, QuotePlaced, event_of};
 ghost use Rattle.rules.specs.Calls as calls;
@@ -81,7 +80,6 @@ impl<P: DayPhase> Book<P> {
         places: usize,
     ) -> Result<(), Refusal>
         ensures answers { ((s : AnySide) → D.lawful sides.now s) → result ≡ answer (first_of (quote_checks entry.now places (book_in P.phase P.last self.now (D.held sides.now) (λ us. None)))) }
-        ensures sound { OnOk result ((s : AnySide) → D.lawful sides.now s → Sound (rank_of s) (D.held sides.now s)) }
         ensures turns { OnOk result (self.now.next + 2 ≤ 1000001) }
     {
         check_price(&self.terms, entry.bid_price)?;
@@ -165,7 +163,6 @@ impl Book<Trading> {
     // The tests of a renewal, in their order.
     fn check_renewal<D: Sides>(&self, sides: &D, places: usize) -> Result<(), Refusal>
         ensures answers { ((s : AnySide) → D.lawful sides.now s) → result ≡ answer (first_of (renew_checks places (trading_book self.now (D.held sides.now) (λ us. None)))) }
-        ensures sound { OnOk result ((s : AnySide) → D.lawful sides.now s → Sound (rank_of s) (D.held sides.now s)) }
         ensures turns { OnOk result (self.now.next + 2 ≤ 1000001) }
     {
         check_table(sides, places)?;

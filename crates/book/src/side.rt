@@ -1,5 +1,5 @@
 // Questions to one side's queue, as the rules put them.
-ghost use Rattle.std.specs.Prelude.{◌≡◌, ◌<◌, true, ◌&&◌, map, ◌==◌};
+ghost use Rattle.std.specs.Prelude.{◌≡◌, ◌<◌, true, ◌&&◌, ◌==◌};
 ghost use Rattle.terms.specs.Setups.{within};
 ghost use Rattle.terms.specs.declared.side.Side.{Side as AnySide};
 ghost use Rattle.queue.specs.Carries.{map_held};

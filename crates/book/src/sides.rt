@@ -9,6 +9,7 @@ ghost use Rattle.orders.specs.declared.order.Order.{Order as AnyOrder};
 ghost use Rattle.rules.specs.Book.{other, resting_lots};
 ghost use Rattle.rules.specs.Opening.{emptied};
 ghost use Rattle.book.specs.BySide.{side_lawful, side_held};
+ghost use Rattle.book.specs.Soundness.{side_sound};
 
 use crate::lots::resting_lots;
 use orders::order::{BuyOrder, Order, SellOrder, SideOrder};
@@ -34,10 +35,9 @@ pub trait Sides {
     fn count(&self, side: Side) -> usize
         ensures { result ≡ length (held self.now side).elements };
 
-    // How many there can be. What a lawful side holds is sound, as `find` says too.
+    // How many there can be.
     fn capacity(&self, side: Side) -> usize
-        ensures holds { result ≡ (held self.now side).capacity }
-        ensures sound { lawful self.now side → Sound (rank_of side) (held self.now side) };
+        ensures { result ≡ (held self.now side).capacity };
 
     // The order that ranks first.
     fn first(&self, side: Side) -> Option<Order>
@@ -45,8 +45,7 @@ pub trait Sides {
 
     // The order with this number.
     fn find(&self, side: Side, number: u32) -> Option<Order>
-        ensures finds { lawful self.now side → result ≡ numbered (rank_of side) (held self.now side) number }
-        ensures sound { lawful self.now side → Sound (rank_of side) (held self.now side) };
+        ensures { lawful self.now side → result ≡ numbered (rank_of side) (held self.now side) number };
 
     // Whether an order other than the one numbered `except` has this turn as its number or its own turn.
     fn is_taken(&self, side: Side, turn: u32, except: Option<u32>) -> bool
@@ -94,6 +93,9 @@ pub trait Sides {
     ghost same_at_first: { (a : Self) → same_queues a a };
 
     ghost same_still: { (a b c : Self) → same_queues a b → same_queues b c → same_queues a c };
+
+    // What a lawful side holds is sound.
+    ghost sound: { (d : Self) (s : AnySide) → lawful d s → Sound (rank_of s) (held d s) };
 }
 
 // A queue of buying and one of selling orders, which stay the caller's.
@@ -121,6 +123,8 @@ impl<'a, B: Queue<BuyOrder>, S: Queue<SellOrder>> Sides for TwoQueues<'a, B, S> 
     ghost same_at_first = { Prim.search rules };
 
     ghost same_still = { Prim.search rules };
+
+    ghost sound = { λ d. side_sound (B.Queue.held d.buys.now) (S.Queue.held d.sells.now) (B.Queue.sound d.buys.now) (S.Queue.sound d.sells.now) };
 
     fn count(&self, side: Side) -> usize {
         match side {

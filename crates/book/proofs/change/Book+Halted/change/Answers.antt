@@ -52,7 +52,7 @@ returns g c =
     settled_all ((s : Side) → g.D.Sides.lawful c.args.sides.now s) b (halted_book (record { terms = s.terms; next = s.next + 1; phase = s.phase }) held')
     (λ l r.
     let q = c.in_ok-found.ensures.answers l in
-    let sound = c.in_ok-found.ensures.sound in
+    let sound = g.met.D.Sides.sound c.args.sides.now in
     let both : SoundBook (b r) = record { buys = sound Buy (l Buy); sells = sound Sell (l Sell) } in
     let out = turned held held₁ f.side (λ h. after_take (rank_of f.side) h d.order) (took.ensures.leaves (l f.side)) in
     let kept = turned held held₁ (other f.side) (λ h. h) took.ensures.stays in

@@ -67,7 +67,7 @@ returns g c =
     let q = c.in_ok-found.ensures.answers l in
     let passes = sym band ∙ q.0 in
     let moves = sym c.if-keeps_place.ensures in
-    let sound = c.in_ok-found.ensures.sound in
+    let sound = g.met.D.Sides.sound c.args.sides.now in
     let both : SoundBook b = record { buys = sound Buy (l Buy); sells = sound Sell (l Sell) } in
     let out = turned held held₁ f.side (λ h. after_take (rank_of f.side) h d.order) (took.ensures.leaves (l f.side)) in
     let kept = turned held held₁ (other f.side) (λ h. h) took.ensures.stays in

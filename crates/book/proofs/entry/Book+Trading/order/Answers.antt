@@ -18,7 +18,7 @@ returns-in_err-check_order g c =
     let p = err_from_is_err_and c.from_residual.result c.from_residual.ensures.1 in
     let b = trading_book c.args.self.now (g.D.Sides.held c.args.sides.now) (g.R.PriceRange.answers c.args.range.now) in
     let call = order c.args.side c.args.time c.args.entry (length c.args.trades.now) in
-    let w = settled ((s : Side) → g.D.Sides.lawful c.args.sides.now s) (λ l. ruled_refused call b _ c.args.trades.now (refused_by _ _ c.in_err-check_order.ensures.answers)) in
+    let w = settled ((s : Side) → g.D.Sides.lawful c.args.sides.now s) (λ l. ruled_refused call b _ c.args.trades.now (refused_by _ _ c.in_err-check_order.ensures)) in
     rw (p.1, p.2) (record { refused = (refl, refl, refl); keeps = λ s l. l; same = g.met.D.Sides.same_at_first _; by_rule = w.0; day = w.1 })
 
 pub returns : goal.returns
@@ -29,8 +29,8 @@ returns g c =
     let table = c.args.trades.now in
     let held = g.D.Sides.held c.args.sides.now in
     let b = trading_book c.args.self.now held (g.R.PriceRange.answers c.args.range.now) in
-    let passes = passed_by _ _ c.in_ok-check_order.ensures.answers in
-    let sound = c.in_ok-check_order.ensures.sound in
+    let passes = passed_by _ _ c.in_ok-check_order.ensures in
+    let sound = g.met.D.Sides.sound c.args.sides.now in
     let met = c.enter-met in
     let held' = g.D.Sides.held met.new.sides in
     let lapse : c.lapses-lapse.result ≡ lapses t s e.price (band b) = c.lapses-lapse.ensures ∙ ap (lapses t s e.price) c.band-band.ensures in

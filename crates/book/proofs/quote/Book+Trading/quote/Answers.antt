@@ -26,7 +26,7 @@ returns g c =
     settled ((s : Side) → g.D.Sides.lawful c.args.sides.now s)
     (λ l.
     let passes = passed_by _ _ (c.in_ok-check_quote.ensures.answers l) in
-    let sound = c.in_ok-check_quote.ensures.sound in
+    let sound = g.met.D.Sides.sound c.args.sides.now in
     let ready = quote_ready c.args.entry table b passes (record { buys = sound Buy (l Buy); sells = sound Sell (l Sell) }) in
     let ruled = quote_ruled c.args.entry (length table) b placed.result.1 table placed.new.trades (held' Buy) (held' Sell) (g.R.PriceRange.answers placed.new.range) passes (placed.ensures.places l ready) placed.ensures.told in
     record { outcome = ruled.outcome; trades = ruled.trades; book = (λ i. book_of trading (placed.ensures.next i).terms (placed.ensures.next i).next (Some (placed.ensures.quoted i)) held' (g.R.PriceRange.answers placed.new.range)) ∙ ruled.book }) in

@@ -1,4 +1,5 @@
-// One scenario a test, the same on a sorted queue and on a heap. Refusals are compared by their numbers, which hosts see.
+// One scenario a test, the same on a sorted queue and on a heap.
+// Refusals are compared by their numbers, which hosts see.
 use heap_queue::HeapQueue;
 use orders::order::{BuyOrder, Order, SellOrder};
 use queue::{Queue, Ranked};

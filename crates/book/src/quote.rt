@@ -39,7 +39,7 @@ fn ask_of(quote: Option<Quoted>) -> Option<u32>
     quote.map(|q| q.ask)
 }
 
-// A leg of a quote, an order of the market maker.
+// A leg of a quote, an order of the market maker, who is member 0 in the rules.
 fn leg(number: u32, price: u32, lots: u32) -> Order
     ensures { result ≡ record { number = number; member = 0; price = price; lots = lots; turn = number } }
 {
@@ -93,7 +93,7 @@ impl<P: DayPhase> Book<P> {
     }
 
     // Places a quote: the old legs go, the range is told, both new legs rest, and what can meet does.
-    // Says the new quote.
+    // Says the new quote. That turns are left is asked for, and not kept by the type: each call takes some.
     fn place_quote<D: Sides, R: PriceRange>(
         &mut self,
         entry: QuoteEntry,

@@ -23,6 +23,7 @@ impl DayRange {
     pub fn new(day: Span) -> Result<DayRange, Refusal>
         ensures { MatchResult result (λ d. (span_allowed 100000 day ≡ true) × (d.day ≡ day)) (λ e. (span_allowed 100000 day ≡ false) × (e ≡ OutsideLimits)) }
     {
+        // A flag, since it is a question that callers may ask without refusing.
         if !day.is_allowed(PRICE_MAX) {
             return Err(Refusal::OutsideLimits);
         }

@@ -7,7 +7,7 @@ use crate::limits::{LOTS_MAX, PRICE_MAX, TICK_MAX};
 use crate::refusal::Refusal;
 use std::convert::TryFrom;
 
-// A least and a greatest number.
+// A least and a greatest number. Not one type with a band of prices, so that neither is taken for the other.
 #[derive(Clone, Copy, Debug, PartialEq, Eq)]
 pub struct Span {
     pub least: u32,
@@ -83,6 +83,7 @@ impl TryFrom<[u32; 9]> for Setup {
             quote_lots: Span::new(few, many),
         };
         let day = Span::new(floor, ceiling);
+        // Flags, since both are questions that callers may ask without refusing.
         if !instrument.is_allowed() || !day.is_allowed(PRICE_MAX) {
             return Err(Refusal::OutsideLimits);
         }

@@ -22,14 +22,14 @@ use terms::side::TimeInForce::{Day, Immediate};
 use terms::trade::{Answer, Trade};
 
 // What can be asked of a book.
-#[derive(Clone, Copy)]
+#[derive(Clone, Copy, Debug, PartialEq, Eq)]
 pub enum Call {
     Message(Message),
     Resting,
 }
 
 // What comes back: an answer, or the buying and the selling lots that rest.
-#[derive(Clone, Copy)]
+#[derive(Clone, Copy, Debug, PartialEq, Eq)]
 pub enum Reply {
     Answer(Answer),
     Resting(u128, u128),
@@ -108,6 +108,7 @@ impl Book<Trading> {
         ensures by_rule { ((s : AnySide) → D.lawful sides.old s) → stays message ≡ true → ByRule (message_of message (length trades.old)) (trading_book self.old (D.held sides.old) (R.PriceRange.answers range.old)) (outcome_of result) trades.old trades.new (trading_book self.new (D.held sides.new) (R.PriceRange.answers range.new)) }
     {
         match message {
+            // An arm a letter: a message has a case for each, and the four share their body.
             Message::Buy(entry) => self.order(Buy, Day, entry, sides, range, trades),
             Message::Sell(entry) => self.order(Sell, Day, entry, sides, range, trades),
             Message::ImmediateBuy(entry) => self.order(Buy, Immediate, entry, sides, range, trades),
@@ -210,6 +211,7 @@ impl Phase {
         ensures day { B.Queue.lawful buys.now → S.Queue.lawful sells.now → ((range : Answers) → Keeps (phase_book self.now (side_held (B.Queue.held buys.now) (S.Queue.held sells.now)) range) (event_of calls.resting (calls.lots result.0 result.1) []) (phase_book self.now (side_held (B.Queue.held buys.now) (S.Queue.held sells.now)) range)) }
     {
         match self {
+            // Four arms, since the phases are four types.
             Phase::Waiting(waiting) => waiting.resting(buys, sells),
             Phase::Trading(trading) => trading.resting(buys, sells),
             Phase::Halted(halted) => halted.resting(buys, sells),

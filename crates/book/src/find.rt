@@ -10,6 +10,7 @@ use orders::order::Found;
 use terms::side::Side;
 
 // The order with this number, and its side; the buys are asked first.
+// The two answers are taken apart by pattern, as docs/DECISIONS.md names it.
 pub(crate) fn find_order<D: Sides>(number: u32, sides: &D) -> Option<Found>
     ensures { ((s : AnySide) → D.lawful sides.now s) → result ≡ found_in (numbered (rank_of Side.Buy) (D.held sides.now Side.Buy) number) (numbered (rank_of Side.Sell) (D.held sides.now Side.Sell) number) }
 {

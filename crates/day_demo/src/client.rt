@@ -30,6 +30,7 @@ fn trading_day<D: Sides, R: PriceRange>(
     ensures same { D.same_queues sides.old sides.new }
     ensures day { IfOk result (λ c. ((s : AnySide) → D.lawful sides.old s) → (ρ : Answers) → Shown ρ (waiting_book waiting (D.held sides.old) (R.PriceRange.answers range.old)) → Shown ρ (closed_book c (D.held sides.new) (R.PriceRange.answers range.new))) }
 {
+    // By match here and below: a refused quote hands the waiting book back, and this client lets it go.
     let mut trading = match waiting.quote(quote, sides, range, trades) {
         Ok((trading, _)) => trading,
         Err((_, refusal)) => return Err(refusal),

@@ -49,7 +49,7 @@ pub trait Queue<E: Ranked> {
     ghost held: { Self → Held E };
 
     // How many elements there are. An empty queue is lawful.
-    // What a lawful one holds is sound, as `capacity` and `find` say too.
+    // What a lawful one holds is sound, as `capacity` and `find` say too, for a caller who reads clauses and no law.
     fn count(&self) -> usize
         ensures counts { result ≡ length (held self.now).elements }
         ensures sound { lawful self.now → Sound E.Ranked.rank (held self.now) }

@@ -4,11 +4,12 @@ use heap_queue::HeapQueue;
 use orders::order::BuyOrder;
 use queue::{Queue, Ranked};
 use sorted_queue::SortedQueue;
+use terms::refusal::Refusal;
 
-// What a call answered: whether it was refused, and with which number, or the number of the order that it found.
+// What a call answered: whether it was refused, and why, or the number of the order that it found.
 #[derive(Debug, Drop, PartialEq)]
 enum Answer {
-    Done(Result<(), u8>),
+    Done(Result<(), Refusal>),
     Found(Option<u32>),
 }
 
@@ -17,8 +18,8 @@ fn call<Q: Queue<BuyOrder>>(q: &mut Q, x: u32) -> Answer {
     let number = x / 8 % 40;
     let e = buy(number, 100 + x / 320 % 7, x / 2_240 % 9, x / 20_160 % 64);
     match x % 8 {
-        0..=2 => Answer::Done(q.put(e).map_err(u8::from)),
-        3 => Answer::Done(q.cut(number, x / 320 % 9).map_err(u8::from)),
+        0..=2 => Answer::Done(q.put(e)),
+        3 => Answer::Done(q.cut(number, x / 320 % 9)),
         4 => Answer::Found(q.take(number).map(|o| o.number())),
         5 => Answer::Found(q.first_after(&e).map(|o| o.number())),
         6 => Answer::Found(q.find(number).map(|o| o.number())),

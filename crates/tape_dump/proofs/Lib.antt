@@ -1,2 +1,4 @@
 pub mod Back
+pub mod Digits
 pub mod Lines
+pub mod Pushes

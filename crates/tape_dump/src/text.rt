@@ -16,6 +16,7 @@ fn digits(places: &mut [u8; 20], n: u64) -> &str
     ensures { result.now ≡ decimal n }
 {
     let end = write_decimal(places, 0, n).unwrap();
+    // proved: digits are ASCII, so these bytes are UTF-8
     unsafe { str::from_utf8_unchecked(&places[..end]) }
 }
 
@@ -31,7 +32,8 @@ impl fmt::Display for Decimal {
     }
 }
 
-// Numbers, a space before each. By pushes, here and below: through `writeln!` a line takes twice the time.
+// Numbers, a space before each. By pushes, as the lines of a set-up and of a message: through `writeln!` a line takes
+// twice the time.
 fn push_numbers(text: &mut String, numbers: &[u32]) -> Result<(), AllocError>
     ensures { OnOk result (string_bytes text.new ≡ string_bytes text.old ++ spaced numbers.now) }
 {
